@@ -1,0 +1,2 @@
+pub mod NetlistLemmas
+pub mod NameLemmas

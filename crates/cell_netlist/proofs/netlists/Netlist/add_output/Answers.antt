@@ -1,0 +1,7 @@
+use Rattle.std.proofs.Common.{arith}
+use Rattle.cell_netlist.proofs.NetlistLemmas.{IsKept-output}
+use Rattle.cell_netlist.proofs.netlists.Netlist.add_output.Goals as goal
+
+pub invariant_of-self-2 : goal.invariant_of-self-2
+invariant_of-self-2 c = rw (c.max-self-inside.ensures, c.number.ensures, c.in_ok-id.ensures.added)
+    (IsKept-output _ _ c.args.rail c.self.invariant (omega arith) c.requires.wire)

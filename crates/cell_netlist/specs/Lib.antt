@@ -1,0 +1,13 @@
+pub mod Lists
+pub mod Names
+pub mod NetlistLines
+pub mod Places
+pub mod Text
+pub mod Tables
+pub mod World
+pub mod Runs
+pub mod Sound
+pub mod RailEquations
+pub mod Lean
+pub mod Asked
+pub mod Delivery

@@ -1,0 +1,133 @@
+-- The nine rules of soundness, and the first refusal of a netlist that breaks one.
+use Rattle.std.specs.Prelude.{◌≡◌, ◌⊎◌, ◌≤◌, ◌<◌, ℕ, Bool, not, Option, Some, None, List, slice_get}
+use Rattle.pulse_ids.specs.Ids.{WireId}
+use Rattle.cell_netlist.specs.declared.kinds.Role.{Role}
+use Rattle.cell_netlist.specs.declared.kinds.Role.TheVariants.{Front, Back, Const}
+use Rattle.cell_netlist.specs.declared.lines.Rail.{Rail}
+use Rattle.cell_netlist.specs.declared.lines.Cell.{Cell}
+use Rattle.cell_netlist.specs.declared.lines.Cell.TheVariants.{La, Fa, Split, Droc}
+use Rattle.cell_netlist.specs.declared.unsound.RailLine.{RailLine}
+use Rattle.cell_netlist.specs.declared.unsound.RailLine.TheVariants.{Input, Output}
+use Rattle.cell_netlist.specs.declared.unsound.Unsound.{Unsound}
+use Rattle.cell_netlist.specs.declared.unsound.Unsound.TheVariants.{WireUndriven, WireTwiceDriven, WireUnread, WireTwiceRead, PortRange, RailTwice, Loop, LooseDroc, WrongPreload}
+use Rattle.cell_netlist.specs.Lists.{IsIn, occurrences}
+use Rattle.cell_netlist.specs.NetlistLines.{NetlistLines, driven, read, outs, number_of_wires, SplittersBelow, IsDroc, Grounded}
+
+-- this output of a DROC is used, on this wire
+abbrev pub IsOn : Option WireId → ℕ → Type 0
+IsOn None wire = ⊥
+IsOn (Some used) wire = used.number ≡ wire
+
+-- a DROC of this role and preload, with its feed
+abbrev pub IsDrocOf : Cell → Role → Bool → ℕ → Type 0
+IsDrocOf (La a b out) role preload feed = ⊥
+IsDrocOf (Fa a b out) role preload feed = ⊥
+IsDrocOf (Split from left right) role preload feed = ⊥
+IsDrocOf (Droc its_role its_preload its_feed q n) role preload feed = (its_role ≡ role) × (its_preload ≡ preload) × (its_feed.number ≡ feed)
+
+-- the output `q` of a cell is on this wire
+abbrev pub HasQ : Cell → ℕ → Type 0
+HasQ (La a b out) wire = ⊥
+HasQ (Fa a b out) wire = ⊥
+HasQ (Split from left right) wire = ⊥
+HasQ (Droc role preload feed q n) wire = IsOn q wire
+
+-- a front of this preload whose `q` is the wire
+pub record IsFrontTo (net : NetlistLines) (link : ℕ) (preload : Bool) : Type 0 where
+  pub front : Cell
+  pub among : IsIn front net.cells
+  pub feed : ℕ
+  pub role : IsDrocOf front Front preload feed
+  pub q : HasQ front link
+
+-- a back of this preload whose feed is the wire
+pub record IsBackFrom (net : NetlistLines) (link : ℕ) (preload : Bool) : Type 0 where
+  pub back : Cell
+  pub among : IsIn back net.cells
+  pub role : IsDrocOf back Back preload link
+
+-- A DROC fits its role: a front has a `q`, which is the feed of a back, and no `n`; a back's feed is the `q` of
+-- a front; from a constant's own `n` a chain of splitters leads to its feed.
+abbrev pub FitsRole : NetlistLines → Cell → Type 0
+FitsRole net (La a b out) = Unit
+FitsRole net (Fa a b out) = Unit
+FitsRole net (Split from left right) = Unit
+FitsRole net (Droc Front preload feed q n) =
+    (n ≡ None) × (link : ℕ) × IsOn q link × (its_preload : Bool) × IsBackFrom net link its_preload
+FitsRole net (Droc Back preload feed q n) = (its_preload : Bool) × IsFrontTo net feed.number its_preload
+FitsRole net (Droc Const preload feed q n) =
+    (own : ℕ) × IsOn n own × (splitters : ℕ) × SplittersBelow net splitters own feed.number
+
+-- The nine rules.
+pub record IsSound (net : NetlistLines) : Type 0 where
+  -- every wire has a driver, and no wire has two
+  pub all_driven : (wire : ℕ) → wire < number_of_wires net → 1 ≤ occurrences wire (driven net)
+  pub none_driven_twice : (wire : ℕ) → wire < number_of_wires net → occurrences wire (driven net) ≤ 1
+  -- every wire has a reader, and no wire has two
+  pub all_read : (wire : ℕ) → wire < number_of_wires net → 1 ≤ occurrences wire (read net)
+  pub none_read_twice : (wire : ℕ) → wire < number_of_wires net → occurrences wire (read net) ≤ 1
+  -- ports are in range
+  pub input_ports : (rail : Rail) → IsIn rail net.input_rails → rail.port < net.inputs
+  pub output_ports : (rail : Rail) → IsIn rail net.output_rails → rail.port < net.outputs
+  -- no two input rails have the same port and sign
+  pub none_twice : (first later : ℕ) (rail other : Rail) → first < later → slice_get net.input_rails first ≡ Some rail
+      → slice_get net.input_rails later ≡ Some other → rail.port ≡ other.port → rail.sign ≡ other.sign → ⊥
+  -- every output of an LA, FA or splitter is grounded
+  pub grounded : (cell : Cell) → IsIn cell net.cells → (IsDroc cell → ⊥) → (wire : ℕ) → IsIn wire (outs cell) → Grounded net wire
+  -- each DROC fits its role
+  pub roles : (cell : Cell) → IsIn cell net.cells → FitsRole net cell
+  -- a back's preload is the complement of its front's
+  pub preloads : (link : ℕ) (front back : Bool) → IsFrontTo net link front → IsBackFrom net link back → back ≡ not front
+
+-- Where and how a netlist breaks a rule.
+abbrev pub Breaks : NetlistLines → Unsound → Type 0
+Breaks net (WireUndriven wire) = (wire.number < number_of_wires net) × (occurrences wire.number (driven net) ≡ 0)
+Breaks net (WireTwiceDriven wire) = 2 ≤ occurrences wire.number (driven net)
+Breaks net (WireUnread wire) = (wire.number < number_of_wires net) × (occurrences wire.number (read net) ≡ 0)
+Breaks net (WireTwiceRead wire) = 2 ≤ occurrences wire.number (read net)
+Breaks net (PortRange (Input id)) = (rail : Rail) × (slice_get net.input_rails id.number ≡ Some rail) × (net.inputs ≤ rail.port)
+Breaks net (PortRange (Output id)) = (rail : Rail) × (slice_get net.output_rails id.number ≡ Some rail) × (net.outputs ≤ rail.port)
+Breaks net (RailTwice id) =
+    (first : ℕ) × (rail : Rail) × (other : Rail) × (first < id.number) × (slice_get net.input_rails first ≡ Some rail)
+    × (slice_get net.input_rails id.number ≡ Some other) × (rail.port ≡ other.port) × (rail.sign ≡ other.sign)
+Breaks net (Loop id) =
+    (cell : Cell) × (slice_get net.cells id.number ≡ Some cell) × (IsDroc cell → ⊥) × (wire : ℕ) × IsIn wire (outs cell) × (Grounded net wire → ⊥)
+Breaks net (LooseDroc id) = (cell : Cell) × (slice_get net.cells id.number ≡ Some cell) × (FitsRole net cell → ⊥)
+Breaks net (WrongPreload id) =
+    (cell : Cell) × (slice_get net.cells id.number ≡ Some cell) × (link : ℕ) × (back : Bool) × (front : Bool)
+    × IsDrocOf cell Back back link × IsFrontTo net link front × (back ≡ not front → ⊥)
+
+-- the place of a refusal in the order of the rules, where input rails come before output rails
+abbrev pub rule_of : Unsound → ℕ
+rule_of (WireUndriven wire) = 1
+rule_of (WireTwiceDriven wire) = 2
+rule_of (WireUnread wire) = 3
+rule_of (WireTwiceRead wire) = 4
+rule_of (PortRange (Input id)) = 5
+rule_of (PortRange (Output id)) = 6
+rule_of (RailTwice id) = 7
+rule_of (Loop id) = 8
+rule_of (LooseDroc id) = 9
+rule_of (WrongPreload id) = 10
+
+-- the number that a refusal names
+abbrev pub number_in : Unsound → ℕ
+number_in (WireUndriven wire) = wire.number
+number_in (WireTwiceDriven wire) = wire.number
+number_in (WireUnread wire) = wire.number
+number_in (WireTwiceRead wire) = wire.number
+number_in (PortRange (Input id)) = id.number
+number_in (PortRange (Output id)) = id.number
+number_in (RailTwice id) = id.number
+number_in (Loop id) = id.number
+number_in (LooseDroc id) = id.number
+number_in (WrongPreload id) = id.number
+
+-- an earlier rule, or the same rule at a lower number
+abbrev pub ComesBefore : Unsound → Unsound → Type 0
+ComesBefore first later = (rule_of first < rule_of later) ⊎ ((rule_of first ≡ rule_of later) × (number_in first < number_in later))
+
+-- the refusal of a netlist: it breaks that rule there, and none before
+pub record IsFirstUnsound (net : NetlistLines) (unsound : Unsound) : Type 0 where
+  pub breaks : Breaks net unsound
+  pub first : (other : Unsound) → Breaks net other → ComesBefore other unsound → ⊥

@@ -1,0 +1,57 @@
+//! The small kinds that netlists and the world of pulses speak of.
+
+/// A gate of two ports.
+#[derive(Clone, Copy, Debug, PartialEq, Eq, Hash)]
+pub enum Gate {
+    /// Last arrival: it emits when both ports have got their pulse.
+    La,
+    /// First arrival: it emits at the first pulse and absorbs the second.
+    Fa,
+}
+
+/// What a gate holds between pulses.
+#[derive(Clone, Copy, Debug, PartialEq, Eq, Hash)]
+pub enum Held {
+    /// No port, or both ports, got a pulse.
+    Rest,
+    /// Port a alone got a pulse.
+    HasA,
+    /// Port b alone got a pulse.
+    HasB,
+}
+
+/// A port of a gate.
+#[derive(Clone, Copy, Debug, PartialEq, Eq, Hash)]
+pub enum Port {
+    A,
+    B,
+}
+
+/// What a DROC cell is there for.
+#[derive(Clone, Copy, Debug, PartialEq, Eq, Hash)]
+pub enum Role {
+    /// The first of a latch pair: it takes the positive rail of the next state.
+    Front,
+    /// The second of a latch pair: it drives the latch's rails.
+    Back,
+    /// A constant, which feeds itself.
+    Const,
+}
+
+/// A phase of a cycle. Excite comes first.
+#[derive(Clone, Copy, Debug, PartialEq, Eq, Hash)]
+pub enum Phase {
+    Excite,
+    Relax,
+}
+
+/// Which rails of each output port are asked for.
+#[derive(Clone, Copy, Debug, PartialEq, Eq, Hash)]
+pub enum Ask {
+    /// The positive rail.
+    Pos,
+    /// The negative rail.
+    Neg,
+    /// The positive and then the negative rail.
+    Both,
+}

@@ -1,0 +1,17 @@
+//! Netlists of pulse cells, the tables of the cells, and (in `specs/`) the world of pulses.
+//!
+//! In alternating logic a cycle has two phases, excite and then relax. A rail of value v carries a pulse
+//! in excite exactly where v is 1, and in relax exactly where v is 0.
+#![tactic(auto)]
+
+mod kinds;
+mod lines;
+mod netlists;
+mod tables;
+mod unsound;
+
+pub use kinds::{Ask, Gate, Held, Phase, Port, Role};
+pub use lines::{Cell, Driver, Rail, Reader};
+pub use netlists::Netlist;
+pub use tables::{arrive, feed_bit};
+pub use unsound::{RailLine, Unsound};

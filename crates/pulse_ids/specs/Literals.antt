@@ -1,0 +1,14 @@
+-- Signs and codes of literals.
+use Rattle.std.specs.Prelude.{ℕ, ◌+◌, ◌*◌, Bool, true, false}
+use Rattle.pulse_ids.specs.declared.literals.Sign.{Sign}
+use Rattle.pulse_ids.specs.declared.literals.Sign.TheVariants.{Pos, Neg}
+
+-- the other sign
+abbrev pub flipped : Sign → Sign
+flipped Pos = Neg
+flipped Neg = Pos
+
+-- twice the number, plus 1 for a negated literal
+abbrev pub code_of : ℕ → Bool → ℕ
+code_of number false = 2 * number
+code_of number true = 2 * number + 1

@@ -1,0 +1,112 @@
+//! Tables that are read by one kind of number.
+
+ghost use Rattle.std.specs.Prelude.{◌≡◌, ◌↔◌, ◌<◌, ◌-◌, ◌^◌, ◌++◌, ◌∷◌, [], List, Some, IsTrue, length, OnOk, OnErr, IfOk, slice_get};
+ghost use Rattle.std.specs.Coded.{coded_list};
+
+use crate::ids::Ident;
+use crate::memory::NoMemory;
+use std::alloc::Global;
+use std::marker::{Model, PhantomData};
+
+/// A list whose items are numbered from 0 by the identifiers `I`. An item is read in constant time.
+#[derive(Debug, Drop)]
+pub struct Row<I: Ident, T> {
+    items: Vec<T>,
+    kind: PhantomData<I>,
+}
+
+impl<I: Ident, T> Model for Row<I, T> {
+    ghost Value = { List T };
+
+    ghost coded = { coded_list T.code };
+
+    ghost view = { λ row. row.items.items };
+
+    ghost invariant = { λ row. length row.items.items < 2 ^ 32 };
+}
+
+impl<I: Ident, T> Row<I, T> {
+    /// An empty row. It takes no memory.
+    pub fn new(alloc: Global) -> Row<I, T>
+        ensures { result ≡ [] }
+    {
+        Row {
+            items: Vec::new(alloc),
+            kind: PhantomData,
+        }
+    }
+
+    /// How many items the row has, always below 2^32.
+    pub fn len(&self) -> u32
+        ensures { result ≡ length self.now }
+    {
+        self.items.len() as u32
+    }
+
+    /// Whether the row has no item.
+    pub fn is_empty(&self) -> bool
+        ensures { IsTrue result ↔ (self.now ≡ []) }
+    {
+        self.items.is_empty()
+    }
+
+    /// The item with this number, which is below the length.
+    pub fn get(&self, id: I) -> &T
+        requires { I.number_of id < length self.now }
+        ensures { slice_get self.now (I.number_of id) ≡ Some result.now }
+    {
+        &self.items[id.number() as usize]
+    }
+
+    /// All items, in the order of their numbers.
+    pub fn items(&self) -> &[T]
+        ensures { result.now ≡ self.now }
+    {
+        self.items.as_slice()
+    }
+
+    /// Adds an item at the end and answers its number, the old length. The row has fewer than
+    /// 2^32 - 1 items. Where memory is refused the row is unchanged and the item is given up.
+    pub fn push(&mut self, item: T) -> Result<I, NoMemory>
+    where
+        T: Drop,
+        requires { length self.old < 2 ^ 32 - 1 }
+        ensures added { OnOk result (self.new ≡ self.old ++ item ∷ []) }
+        ensures number { IfOk result (λ id. I.number_of id ≡ length self.old) }
+        ensures unchanged { OnErr result (self.new ≡ self.old) }
+    {
+        let number = self.items.len() as u32;
+        self.items.push(item)?;
+        Ok(I::new(number))
+    }
+}
+
+#[cfg(test)]
+mod tests {
+    use super::*;
+    use crate::ids::{CellId, NetId, NodeId, RailId, WireId};
+    use crate::names::Name;
+    use std::test::Fail;
+
+    fn first_two<I: Ident>(alloc: Global) -> Result<Row<I, u8>, NoMemory> {
+        let mut row = Row::new(alloc);
+        row.push(7)?;
+        row.push(9)?;
+        Ok(row)
+    }
+
+    #[test]
+    fn rows_hold_what_was_pushed(rt: HostRuntime) -> Result<(), Fail> {
+        let row = first_two::<WireId>(rt.alloc())?;
+        assert_eq!(rt; row.len(), 2);
+        assert_eq!(rt; *row.get(WireId::new(1)), 9);
+        assert_eq!(rt; first_two::<CellId>(rt.alloc())?.items(), [7, 9].as_slice());
+        assert_eq!(rt; first_two::<NetId>(rt.alloc())?.len(), 2);
+        assert_eq!(rt; first_two::<NodeId>(rt.alloc())?.len(), 2);
+        assert!(rt; !first_two::<RailId>(rt.alloc())?.is_empty());
+        let name = Name::new(rt.alloc(), b"n<7>")?;
+        assert_eq!(rt; name.bytes(), b"n<7>".as_slice());
+        assert!(rt; name == Name::new(rt.alloc(), b"n<7>")?);
+        Ok(())
+    }
+}

@@ -1,0 +1,10 @@
+pub mod Mapped
+pub mod Counting
+pub mod Values
+pub mod Unique
+pub mod Sources
+pub mod Grounds
+pub mod Exists
+pub mod Shown
+pub mod Refusals
+pub mod Judged

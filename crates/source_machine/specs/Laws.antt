@@ -1,0 +1,35 @@
+-- That a well founded machine computes one thing.
+use Rattle.std.specs.Prelude.{◌≡◌, ◌⊎◌, List, Bool, length, All}
+use Rattle.source_machine.specs.Machines.{PlainMachine}
+use Rattle.source_machine.specs.Fitting.{Fits}
+use Rattle.source_machine.specs.Runs.{IsRun}
+use Rattle.source_machine.specs.Grounding.{IsWellFounded, Refusal, IsFirstRefusal}
+
+-- each vector has a bit for each input
+abbrev pub AreVectors : PlainMachine → List (List Bool) → Type 0
+AreVectors machine vectors = All (λ vector. length vector ≡ length machine.inputs) vectors
+
+-- two runs of a well founded machine on the same vectors are the same
+abbrev pub RunsAreEqual : Type 0
+RunsAreEqual =
+    (machine : PlainMachine) → Fits machine → IsWellFounded machine → (vectors : List (List Bool)) → AreVectors machine vectors → (one other : List (List Bool)) → IsRun machine vectors one → IsRun machine vectors other → one ≡ other
+
+-- a well founded machine has a run on any vectors
+abbrev pub RunExists : Type 0
+RunExists =
+    (machine : PlainMachine) → Fits machine → IsWellFounded machine → (vectors : List (List Bool)) → AreVectors machine vectors → (valuations : List (List Bool)) × IsRun machine vectors valuations
+
+-- a well founded machine isn't refused
+abbrev pub FoundedIsNotRefused : Type 0
+FoundedIsNotRefused =
+    (machine : PlainMachine) → IsWellFounded machine → (refusal : Refusal) → IsFirstRefusal machine refusal → ⊥
+
+-- two first refusals of a machine are the same
+abbrev pub RefusalsAreEqual : Type 0
+RefusalsAreEqual =
+    (machine : PlainMachine) (one other : Refusal) → IsFirstRefusal machine one → IsFirstRefusal machine other → one ≡ other
+
+-- a machine that fits is well founded or refused
+abbrev pub FitsIsJudged : Type 0
+FitsIsJudged =
+    (machine : PlainMachine) → Fits machine → IsWellFounded machine ⊎ ((refusal : Refusal) × IsFirstRefusal machine refusal)

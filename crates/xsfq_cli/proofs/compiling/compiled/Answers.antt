@@ -1,0 +1,27 @@
+use Rattle.std.proofs.Common.{◌∙◌, sym, subst, List, ℕ, Option}
+use Rattle.std.specs.Io.KnownBytes.{Consumes}
+use Rattle.source_machine.specs.declared.machines.RawMachine.{RawMachine}
+use Rattle.source_machine.specs.Machines.{machine_of}
+use Rattle.xsfq_cli.specs.Verdicts.{HasVerdict, Reads}
+use Rattle.xsfq_cli.proofs.PartsOfTexts.{some_so}
+use Rattle.xsfq_cli.proofs.WireFacts.{long_is_unbuilt, all_taken, wires_of_text}
+use Rattle.xsfq_cli.proofs.compiling.compiled.Goals as goal
+
+pub returns-then-not-text-clause-unbuilt : goal.returns-then-not-text-clause-unbuilt
+returns-then-not-text-clause-unbuilt g c = λ e. long_is_unbuilt _ _ _ c.in-Ok.ensures.took (c.in-Ok.ensures.long c.if-not-text.true)
+
+pub netlist_of_wires-requires : goal.netlist_of_wires-requires
+netlist_of_wires-requires g c = wires_of_text c.deref.result.now (machine_of c.in-Some.machine)
+    (some_so (λ (raw : RawMachine). HasVerdict c.deref.result.now (Reads (machine_of raw))) _ _ c.in-Some.is c.in_ok-machine.ensures.found)
+
+pub returns-clause-made : goal.returns-clause-made
+returns-clause-made g c = (
+  c.deref.result.now,
+  all_taken _ _ _ (subst (λ (bytes : List ℕ). Consumes (g.S.Source.left c.args.input.now) (g.S.Source.left c.read_text.new.input) bytes)
+      (sym c.deref.ensures.value) c.in-Ok.ensures.took) (c.in-Ok.ensures.whole c.if-not-text.false),
+  record {
+    machine = machine_of c.in-Some.machine;
+    verdict = some_so (λ (raw : RawMachine). HasVerdict c.deref.result.now (Reads (machine_of raw))) _ _ c.in-Some.is c.in_ok-machine.ensures.found;
+    netlist = c.in_ok-net.ensures;
+  },
+)

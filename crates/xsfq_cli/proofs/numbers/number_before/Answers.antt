@@ -1,0 +1,12 @@
+use Rattle.std.proofs.Common.{◌∙◌, sym, arith, ◌+◌, ap, subst, ℕ, List}
+use Rattle.xsfq_cli.proofs.PartsOfTexts.{if_none, no_number_without_stop, no_number_before}
+use Rattle.xsfq_cli.proofs.numbers.number_before.Goals as goal
+
+pub returns-in_err-digits-clause-none : goal.returns-in_err-digits-clause-none
+returns-in_err-digits-clause-none c = if_none c.from_residual.result
+    (λ n rest h e. no_number_without_stop c.args.stop n c.args.text.now rest c.in_err-digits.ensures.none e)
+
+pub returns-in_err-number-clause-none : goal.returns-in_err-number-clause-none
+returns-in_err-number-clause-none c = if_none c.from_residual-in_err-number.result
+    (λ n rest h e. c.in_err-number.ensures.none n h
+    (no_number_before c.args.stop n c.args.text.now _ _ rest c.requires h c.in_ok-digits.ensures.found e))

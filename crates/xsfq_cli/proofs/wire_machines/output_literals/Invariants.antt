@@ -1,0 +1,9 @@
+use Rattle.std.proofs.Common.{◌≡◌, ◌+◌, map, take}
+use Rattle.pulse_ids.specs.Ids.{NetId}
+use Rattle.cell_netlist.specs.Lists.{upto}
+use Rattle.source_machine.specs.Machines.{literal_of}
+use Rattle.xsfq_cli.specs.WireTexts.{unnamed, literal_of_code}
+use Rattle.xsfq_cli.proofs.wire_machines.output_literals.Given as goal
+
+abbrev pub invariant-loop-code : goal.invariant-loop-code
+invariant-loop-code l = map literal_of l.literals.items ≡ map literal_of_code (take l.code-index l.codes)

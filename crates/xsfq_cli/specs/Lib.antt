@@ -1,0 +1,9 @@
+pub mod Orders
+pub mod Outcomes
+pub mod Writing
+pub mod Parting
+pub mod Compiled
+pub mod WireTexts
+pub mod Verdicts
+pub mod OutputCodes
+pub mod WireNetlists

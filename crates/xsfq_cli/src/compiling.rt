@@ -1,0 +1,46 @@
+//! From a source to its netlist.
+
+ghost use Rattle.std.specs.Prelude.{◌≡◌, ◌⊎◌, ◌<◌, List, [], ℕ, IfOk, IfErr, OnOk, IfSome};
+ghost use Rattle.byte_ports.specs.Causes.{Rose};
+ghost use Rattle.xsfq_cli.specs.declared.outcomes.Outcome.TheVariants as outcomes;
+ghost use Rattle.xsfq_cli.specs.Compiled.{IsCompiled, TakesAll};
+ghost use Rattle.xsfq_cli.specs.Verdicts.{HasVerdict, Unbuilt};
+
+use crate::outcomes::Outcome;
+use crate::reading::{ReadError, read_text};
+use crate::wire_netlists::netlist_of_wires;
+use crate::wire_texts::read_wire_text;
+use byte_ports::Source;
+use cell_netlist::Netlist;
+use std::alloc::Global;
+
+/// No source of a form that is built has so many bytes.
+const MOST_BYTES: usize = 262_144;
+
+/// Reads a source and makes its netlist; answers the outcome where there is none. It takes all the memory that
+/// the command needs.
+pub(crate) fn compiled<S: Source>(alloc: Global, input: &mut S) -> Result<Netlist, Outcome>
+    ensures made { IfOk result (λ net. (bytes : List ℕ) × TakesAll (S.left input.old) (S.left input.new) bytes × IsCompiled bytes net) }
+    ensures inputs_unnamed { IfOk result (λ net. net.input_names ≡ []) }
+    ensures outputs_unnamed { IfOk result (λ net. net.output_names ≡ []) }
+    ensures calm { OnOk result (S.faults input.new ≡ S.faults input.old) }
+    ensures answers { IfErr result (λ outcome. (outcome ≡ outcomes.ReadFault) ⊎ ((outcome ≡ outcomes.NoMemory) ⊎ (outcome ≡ outcomes.NotBuilt))) }
+    ensures read_fault { IfErr result (λ outcome. outcome ≡ outcomes.ReadFault → Rose (S.faults input.old) (S.faults input.new)) }
+    ensures no_memory { IfErr result (λ outcome. outcome ≡ outcomes.NoMemory → S.faults input.new ≡ S.faults input.old) }
+    ensures not_built { IfErr result (λ outcome. outcome ≡ outcomes.NotBuilt → S.faults input.new ≡ S.faults input.old) }
+    ensures unbuilt { IfErr result (λ outcome. outcome ≡ outcomes.NotBuilt → IfSome (S.left input.old) (λ bytes. HasVerdict bytes Unbuilt)) }
+{
+    let text = match read_text(alloc, input, MOST_BYTES) {
+        Ok(text) => text,
+        Err(ReadError::Failed) => return Err(Outcome::ReadFault),
+        Err(ReadError::NoMemory) => return Err(Outcome::NoMemory),
+    };
+    if !text.ended {
+        return Err(Outcome::NotBuilt);
+    }
+    let Some(machine) = read_wire_text(alloc, &text.bytes)? else {
+        return Err(Outcome::NotBuilt);
+    };
+    let net = netlist_of_wires(alloc, &machine)?;
+    Ok(net)
+}

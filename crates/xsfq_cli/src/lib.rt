@@ -1,0 +1,18 @@
+//! The compiler as one call: words, a source and two sinks in, an outcome out.
+#![tactic(auto)]
+
+mod compiling;
+mod numbers;
+mod orders;
+mod outcomes;
+mod output_codes;
+mod reading;
+mod top;
+mod wire_machines;
+mod wire_netlists;
+mod wire_texts;
+mod writing;
+
+pub use orders::Order;
+pub use outcomes::Outcome;
+pub use top::{refuse, run};

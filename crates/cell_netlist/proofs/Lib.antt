@@ -1,2 +1,14 @@
 pub mod NetlistLemmas
 pub mod NameLemmas
+pub mod ListLemmas
+pub mod SoundTests
+pub mod LeanTests
+pub mod Played
+pub mod ExampleRuns
+pub mod Refusals
+pub mod ExampleRefusals
+pub mod ExampleLeanness
+pub mod ExampleBits
+pub mod PlaceLemmas
+pub mod TextLemmas
+pub mod Shapes

@@ -1,10 +1,10 @@
 -- What an appended line does to the number of wires and to the shape of a netlist.
-use Rattle.std.proofs.Common.{◌≡◌, ◌<◌, ◌≤◌, ◌+◌, ◌^◌, ◌⊎◌, ℕ, max, List, [], ◌∷◌, ◌++◌, map, ap, sym, ◌∙◌, subst, inl, inr, arith, refl}
+use Rattle.std.proofs.Common.{◌≡◌, ◌<◌, ◌+◌, ◌^◌, ◌⊎◌, ℕ, max, List, [], ◌∷◌, ◌++◌, map, subst, inl, inr, arith, refl}
 use Rattle.cell_netlist.specs.declared.lines.Rail.{Rail}
 use Rattle.cell_netlist.specs.Lists.{IsIn}
 use Rattle.std.proofs.lemmas.List.{map-append}
 use Rattle.std.specs.List.{flat_map}
-use Rattle.cell_netlist.specs.NetlistLines.{outs, reads, NetlistLines, wire_of, wire_bound, number_of_wires, driven, read, IsNetlist, IsKept}
+use Rattle.cell_netlist.specs.NetlistLines.{outs, reads, NetlistLines, wire_of, wire_bound, number_of_wires, driven, read, IsKept}
 
 -- a number put behind a front counts as if it stood first
 pub wire_bound-behind : (xs ys : List ℕ) (w : ℕ) → wire_bound (xs ++ w ∷ ys) ≡ max (wire_bound (xs ++ ys)) (w + 1)

@@ -1,5 +1,5 @@
 -- What it means that a netlist delivers the bits of a machine under every order of deliveries.
-use Rattle.std.specs.Prelude.{◌≡◌, ◌≤◌, ℕ, Bool, Option, Some, List, map, length, if◌then◌else◌}
+use Rattle.std.specs.Prelude.{◌≡◌, ◌≤◌, ℕ, Bool, Some, List, map, length, if◌then◌else◌}
 use Rattle.cell_netlist.specs.declared.kinds.Phase.{Phase}
 use Rattle.cell_netlist.specs.declared.kinds.Phase.TheVariants.{Relax}
 use Rattle.cell_netlist.specs.declared.lines.Rail.{Rail}

@@ -8,6 +8,10 @@ pub mod World
 pub mod Runs
 pub mod Sound
 pub mod RailEquations
+pub mod Tests
 pub mod Lean
+pub mod LeanTests
 pub mod Asked
 pub mod Delivery
+pub mod Examples
+pub mod OneReader

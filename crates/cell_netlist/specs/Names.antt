@@ -1,5 +1,5 @@
 -- Which lists of bytes may name a port.
-use Rattle.std.specs.Prelude.{◌≡◌, ◌≤◌, ◌<◌, ◌+◌, ◌^◌, ℕ, Option, Some, None, List, [], ◌∷◌, length, if◌then◌else◌, ◌==◌}
+use Rattle.std.specs.Prelude.{◌≡◌, ◌≤◌, ◌<◌, ◌+◌, ℕ, Option, Some, None, List, [], ◌∷◌, length, if◌then◌else◌, ◌==◌}
 use Rattle.cell_netlist.specs.Lists.{IsIn}
 
 -- 1 to 1,023 bytes other than LF

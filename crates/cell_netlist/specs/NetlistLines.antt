@@ -1,7 +1,7 @@
 -- A netlist as plain lists; the wires that its lines drive and read; its number of wires; splitters below a
 -- wire, roots and grounded wires.
-use Rattle.std.specs.Prelude.{◌≡◌, ◌≤◌, ◌<◌, ◌+◌, ◌^◌, ℕ, zero, suc, max, Bool, true, false, Option, Some, None, List, [], ◌∷◌, ◌++◌, map, length}
-use Rattle.std.specs.List.{flat_map, All}
+use Rattle.std.specs.Prelude.{◌≡◌, ◌≤◌, ◌<◌, ◌+◌, ◌^◌, ℕ, zero, suc, max, Option, Some, None, List, [], ◌∷◌, ◌++◌, map}
+use Rattle.std.specs.List.{flat_map}
 use Rattle.pulse_ids.specs.Ids.{WireId}
 use Rattle.cell_netlist.specs.declared.lines.Rail.{Rail}
 use Rattle.cell_netlist.specs.declared.lines.Cell.{Cell}

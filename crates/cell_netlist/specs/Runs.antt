@@ -3,7 +3,7 @@ use Rattle.std.specs.Prelude.{◌≡◌, ◌+◌, ◌*◌, ℕ, Bool, Option, So
 use Rattle.cell_netlist.specs.declared.kinds.Phase.{Phase}
 use Rattle.cell_netlist.specs.declared.kinds.Phase.TheVariants.{Excite, Relax}
 use Rattle.cell_netlist.specs.NetlistLines.{NetlistLines}
-use Rattle.cell_netlist.specs.World.{State, start, IsSettled, opened, Outcome, Delivered, deliver}
+use Rattle.cell_netlist.specs.World.{State, start, IsSettled, opened, Delivered, deliver}
 
 -- the phases of a run: the cycle, from 0, and which of its two phases
 pub record Stage : Type 0 where

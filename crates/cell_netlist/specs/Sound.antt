@@ -1,12 +1,11 @@
 -- The nine rules of soundness, and the first refusal of a netlist that breaks one.
-use Rattle.std.specs.Prelude.{◌≡◌, ◌⊎◌, ◌≤◌, ◌<◌, ℕ, Bool, not, Option, Some, None, List, slice_get}
+use Rattle.std.specs.Prelude.{◌≡◌, ◌⊎◌, ◌≤◌, ◌<◌, ℕ, Bool, not, Option, Some, None, slice_get}
 use Rattle.pulse_ids.specs.Ids.{WireId}
 use Rattle.cell_netlist.specs.declared.kinds.Role.{Role}
 use Rattle.cell_netlist.specs.declared.kinds.Role.TheVariants.{Front, Back, Const}
 use Rattle.cell_netlist.specs.declared.lines.Rail.{Rail}
 use Rattle.cell_netlist.specs.declared.lines.Cell.{Cell}
 use Rattle.cell_netlist.specs.declared.lines.Cell.TheVariants.{La, Fa, Split, Droc}
-use Rattle.cell_netlist.specs.declared.unsound.RailLine.{RailLine}
 use Rattle.cell_netlist.specs.declared.unsound.RailLine.TheVariants.{Input, Output}
 use Rattle.cell_netlist.specs.declared.unsound.Unsound.{Unsound}
 use Rattle.cell_netlist.specs.declared.unsound.Unsound.TheVariants.{WireUndriven, WireTwiceDriven, WireUnread, WireTwiceRead, PortRange, RailTwice, Loop, LooseDroc, WrongPreload}

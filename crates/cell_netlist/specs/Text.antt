@@ -1,5 +1,5 @@
 -- The one text of a netlist.
-use Rattle.std.specs.Prelude.{◌+◌, ℕ, Bool, true, false, Option, Some, None, List, [], ◌∷◌, ◌++◌, map, codes, decimal}
+use Rattle.std.specs.Prelude.{◌≡◌, ℕ, Bool, true, false, Option, Some, None, List, [], ◌∷◌, ◌++◌, map, codes, decimal}
 use Rattle.std.specs.List.{flat_map}
 use Rattle.pulse_ids.specs.Ids.{WireId}
 use Rattle.pulse_ids.specs.declared.literals.Sign.{Sign}
@@ -9,7 +9,7 @@ use Rattle.cell_netlist.specs.declared.kinds.Role.TheVariants.{Front, Back, Cons
 use Rattle.cell_netlist.specs.declared.lines.Rail.{Rail}
 use Rattle.cell_netlist.specs.declared.lines.Cell.{Cell}
 use Rattle.cell_netlist.specs.declared.lines.Cell.TheVariants.{La, Fa, Split, Droc}
-use Rattle.cell_netlist.specs.NetlistLines.{NetlistLines}
+use Rattle.cell_netlist.specs.NetlistLines.{NetlistLines, IsNetlist}
 
 -- words parted by one space, and then LF
 abbrev pub line_of : List (List ℕ) → List ℕ
@@ -66,3 +66,8 @@ netlist_words net = (codes "xsfq" ∷ codes "1" ∷ []) ∷ (codes "ports" ∷ d
 -- the text of a netlist
 abbrev pub text_of : NetlistLines → List ℕ
 text_of net = flat_map line_of (netlist_words net)
+
+-- no text of a netlist is a front of another's, so two netlists with one text are the same
+abbrev pub TextsAreNoFronts : Type 0
+TextsAreNoFronts = (first other : NetlistLines) → IsNetlist first → IsNetlist other → (rest : List ℕ) → text_of first ++ rest ≡ text_of other
+    → (first ≡ other) × (rest ≡ [])

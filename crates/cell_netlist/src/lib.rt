@@ -4,13 +4,17 @@
 //! in excite exactly where v is 1, and in relax exactly where v is 0.
 #![tactic(auto)]
 
+mod examples;
 mod kinds;
+mod laws;
 mod lines;
 mod netlists;
 mod tables;
 mod unsound;
 
+pub use examples::examples_hold;
 pub use kinds::{Ask, Gate, Held, Phase, Port, Role};
+pub use laws::{lean_tests, readers_of_wires, sound_tests, texts_of_netlists};
 pub use lines::{Cell, Driver, Rail, Reader};
 pub use netlists::Netlist;
 pub use tables::{arrive, feed_bit};

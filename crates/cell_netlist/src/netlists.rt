@@ -163,3 +163,44 @@ fn name_of(names: &[(u32, Name)], port: u32) -> Option<&Name>
         Err(_) => None,
     }
 }
+
+#[cfg(test)]
+mod tests {
+    use super::*;
+    use pulse_ids::{Sign, WireId};
+    use std::test::Fail;
+
+    fn positive(wire: u32) -> Rail
+        ensures { result.wire.number ≡ wire }
+    {
+        Rail {
+            port: 0,
+            sign: Sign::Pos,
+            wire: WireId::new(wire),
+        }
+    }
+
+    #[test]
+    fn rails_raise_the_number_of_wires(rt: HostRuntime) -> Result<(), Fail> {
+        let mut net = Netlist::new(rt.alloc(), 1, 2);
+        assert_eq!(rt; net.wires(), 0);
+        assert_eq!(rt; net.add_input(positive(6))?.number(), 0);
+        assert_eq!(rt; net.wires(), 7);
+        assert_eq!(rt; net.add_output(positive(4))?.number(), 0);
+        assert_eq!(rt; net.wires(), 7);
+        net.add_output(positive(9))?;
+        assert_eq!(rt; net.wires(), 10);
+        assert_eq!(rt; (net.inputs(), net.outputs()), (1, 2));
+        assert_eq!(rt; net.input_rails().items(), [positive(6)].as_slice());
+        assert_eq!(rt;
+            net.output_rails().items(),
+            [positive(4), positive(9)].as_slice()
+        );
+        assert!(rt; net.cells().is_empty());
+        assert!(rt; net.input_name(0).is_none());
+        assert!(rt; net.output_name(1).is_none());
+        assert!(rt; net.input_names().is_empty());
+        assert!(rt; net.output_names().is_empty());
+        Ok(())
+    }
+}

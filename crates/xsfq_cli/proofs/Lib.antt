@@ -4,4 +4,7 @@ pub mod LinesRead
 pub mod PartsOfTexts
 pub mod TextsWritten
 pub mod WireFacts
+pub mod WireMachines
+pub mod WiresCompiled
 pub mod WiresMapped
+pub mod WiresSound

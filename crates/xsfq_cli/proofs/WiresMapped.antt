@@ -55,7 +55,7 @@ pub length-output_rails_from : (wire_of_slot : ℕ → ℕ) (port : ℕ) (slots 
 length-output_rails_from wire_of_slot port [] = refl
 length-output_rails_from wire_of_slot port (slot ∷ slots) = let h = length-output_rails_from wire_of_slot (port + 1) slots in omega arith
 
-one_or_none : (b : Bool) (n : ℕ) → let found : List ℕ = if b then n ∷ [] else [] in length found ≤ 1
+pub one_or_none : (b : Bool) (n : ℕ) → let found : List ℕ = if b then n ∷ [] else [] in length found ≤ 1
 one_or_none true n = omega arith
 one_or_none false n = omega arith
 

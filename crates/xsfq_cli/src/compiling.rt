@@ -12,6 +12,8 @@ use crate::wire_netlists::netlist_of_wires;
 use crate::wire_texts::read_wire_text;
 use byte_ports::Source;
 use cell_netlist::Netlist;
+use pulse_world::every_order_without_cells;
+use source_machine::one_run;
 use std::alloc::Global;
 
 /// No source of a form that is built has so many bytes.
@@ -42,5 +44,8 @@ pub(crate) fn compiled<S: Source>(alloc: Global, input: &mut S) -> Result<Netlis
         return Err(Outcome::NotBuilt);
     };
     let net = netlist_of_wires(alloc, &machine)?;
+    // The laws that the clauses rest on; these calls do nothing.
+    one_run();
+    every_order_without_cells();
     Ok(net)
 }

@@ -7,6 +7,8 @@ mod orders;
 mod outcomes;
 mod output_codes;
 mod reading;
+#[cfg(test)]
+mod tests;
 mod top;
 mod wire_machines;
 mod wire_netlists;

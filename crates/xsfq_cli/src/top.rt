@@ -126,9 +126,10 @@ pub fn refuse<E: Sink>(words: &[String], notes: &mut E) -> Outcome
     ensures note { E.faults notes.new ≡ E.faults notes.old → Appends (E.taken notes.old) (E.taken notes.new) (note_text result) }
     ensures note_front { TookFront (E.taken notes.old) (E.taken notes.new) (note_text result) }
 {
-    let outcome = match Order::from_words(words) {
-        Some(_) => Outcome::NoMemory,
-        None => Outcome::Usage,
+    let outcome = if Order::from_words(words).is_some() {
+        Outcome::NoMemory
+    } else {
+        Outcome::Usage
     };
     note(outcome, notes);
     outcome

@@ -5,6 +5,7 @@ use Rattle.source_machine.specs.Machines.{machine_of}
 use Rattle.xsfq_cli.specs.Verdicts.{HasVerdict, Reads}
 use Rattle.xsfq_cli.proofs.PartsOfTexts.{some_so}
 use Rattle.xsfq_cli.proofs.WireFacts.{long_is_unbuilt, all_taken, wires_of_text}
+use Rattle.xsfq_cli.proofs.WiresCompiled.{wires_compiled}
 use Rattle.xsfq_cli.proofs.compiling.compiled.Goals as goal
 
 pub returns-then-not-text-clause-unbuilt : goal.returns-then-not-text-clause-unbuilt
@@ -19,9 +20,8 @@ returns-clause-made g c = (
   c.deref.result.now,
   all_taken _ _ _ (subst (λ (bytes : List ℕ). Consumes (g.S.Source.left c.args.input.now) (g.S.Source.left c.read_text.new.input) bytes)
       (sym c.deref.ensures.value) c.in-Ok.ensures.took) (c.in-Ok.ensures.whole c.if-not-text.false),
-  record {
-    machine = machine_of c.in-Some.machine;
-    verdict = some_so (λ (raw : RawMachine). HasVerdict c.deref.result.now (Reads (machine_of raw))) _ _ c.in-Some.is c.in_ok-machine.ensures.found;
-    netlist = c.in_ok-net.ensures;
-  },
+  wires_compiled c.one_run.ensures.at_least_one c.one_run.ensures.at_most_one c.every_order_without_cells.ensures.bits
+      c.deref.result.now (machine_of c.in-Some.machine) c.in_ok-net.net
+      (some_so (λ (raw : RawMachine). HasVerdict c.deref.result.now (Reads (machine_of raw))) _ _ c.in-Some.is c.in_ok-machine.ensures.found)
+      c.in_ok-net.ensures,
 )

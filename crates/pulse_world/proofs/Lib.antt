@@ -1,0 +1,15 @@
+pub mod Sums
+pub mod Moments
+pub mod Bridge
+pub mod Drivers
+pub mod Phases
+pub mod Claims
+pub mod Openings
+pub mod Settling
+pub mod Values
+pub mod Cycles
+pub mod Along
+pub mod Existence
+pub mod OutputBits
+pub mod Due
+pub mod Agreement

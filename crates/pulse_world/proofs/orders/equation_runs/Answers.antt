@@ -1,0 +1,12 @@
+use Rattle.pulse_world.proofs.Existence.{run_exists}
+use Rattle.pulse_world.proofs.Agreement.{run_rails, runs_agree}
+use Rattle.pulse_world.proofs.orders.equation_runs.Goals as goal
+
+pub returns-clause-exists : goal.returns-clause-exists
+returns-clause-exists c = run_exists
+
+pub returns-clause-rails : goal.returns-clause-rails
+returns-clause-rails c = run_rails
+
+pub returns-clause-agree : goal.returns-clause-agree
+returns-clause-agree c = runs_agree

@@ -1,0 +1,13 @@
+use Rattle.pulse_world.proofs.Along.{order_law}
+use Rattle.pulse_world.proofs.OutputBits.{bit_law}
+use Rattle.pulse_world.proofs.Due.{follow_law}
+use Rattle.pulse_world.proofs.orders.every_order.Goals as goal
+
+pub returns-clause-delivers : goal.returns-clause-delivers
+returns-clause-delivers c = order_law
+
+pub returns-clause-bits : goal.returns-clause-bits
+returns-clause-bits c = bit_law
+
+pub returns-clause-follows : goal.returns-clause-follows
+returns-clause-follows c = follow_law

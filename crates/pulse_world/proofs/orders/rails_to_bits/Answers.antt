@@ -1,0 +1,5 @@
+use Rattle.pulse_world.proofs.Bridge as bridge
+use Rattle.pulse_world.proofs.orders.rails_to_bits.Goals as goal
+
+pub returns : goal.returns
+returns c = record { bits = bridge.rails_to_bits }

@@ -1,0 +1,2 @@
+pub mod EveryOrder
+pub mod DuePulses

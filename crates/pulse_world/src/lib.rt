@@ -1,0 +1,11 @@
+//! The world of pulses: what is true of a sound netlist under every order of deliveries.
+//!
+//! The words are those of `cell_netlist`: its `World` and `Runs` say what a run is, and its `RailEquations`
+//! what bit each wire has in each cycle.
+#![tactic(auto)]
+
+mod orders;
+
+pub use orders::{
+    equation_runs, every_order, every_order_without_cells, pulses_per_cycle, rails_to_bits,
+};

@@ -142,3 +142,32 @@ impl<K: Copy> Default for Literal<K> {
         }
     }
 }
+
+#[cfg(test)]
+mod tests {
+    use super::*;
+    use crate::ids::Ident;
+    use std::test::Fail;
+
+    #[test]
+    fn literals_have_the_codes_of_aiger(rt: HostRuntime) -> Result<(), Fail> {
+        let seven = Id::new(7);
+        let cases = [
+            (Lit::FALSE, 0),
+            (Lit::TRUE, 1),
+            (Lit::FALSE.flip(), 1),
+            (Lit::new(seven, false), 14),
+            (Lit::new(seven, true), 15),
+            (Lit::new(seven, true).flip(), 14),
+        ];
+        for (literal, code) in cases {
+            assert_eq!(rt; literal.code(), code);
+        }
+        assert_eq!(rt; NodeLit::FALSE.code(), 0);
+        assert_eq!(rt; NodeLit::TRUE.code(), 1);
+        assert_eq!(rt; Lit::default(), Lit::FALSE);
+        assert_eq!(rt; NodeLit::default(), NodeLit::FALSE);
+        assert_eq!(rt; Sign::Pos.flip(), Sign::Neg);
+        Ok(())
+    }
+}

@@ -1,5 +1,5 @@
 -- Adding a code to a table of different codes.
-use Rattle.std.proofs.Common.{◌≡◌, ◌≤◌, ◌<◌, ◌+◌, ◌++◌, ◌∷◌, [], ◌⊎◌, inl, inr, ℕ, zero, suc, Bool, true, false, List, length, get_or, set, nat_lt, ◌==◌, ap, sym, ◌∙◌, subst, refl, arith, unwrap_or, slice_get, ltb-true, ltb-false}
+use Rattle.std.proofs.Common.{◌≡◌, ◌≤◌, ◌<◌, ◌+◌, ◌++◌, ◌∷◌, [], ◌⊎◌, inl, inr, ℕ, zero, suc, Bool, true, false, List, length, get_or, set, nat_lt, ◌==◌, ap, sym, ◌∙◌, subst, refl, arith, ltb-true, ltb-false}
 use Rattle.std.proofs.Math.ListN.{length-set}
 use Rattle.std.proofs.lemmas.Bool.{eq-eqb, ne_eqb}
 use Rattle.std.proofs.lemmas.Bool.Decides.{eqb_tells}

@@ -1,5 +1,5 @@
 -- The header of a wire text, read from the left.
-use Rattle.std.proofs.Common.{◌≡◌, ◌++◌, ◌∷◌, [], ◌<◌, ◌≤◌, ◌^◌, ℕ, List, codes, decimal, ap, sym, ◌∙◌, arith, append_assoc, refl}
+use Rattle.std.proofs.Common.{◌≡◌, ◌++◌, ◌∷◌, ◌<◌, ◌≤◌, ◌^◌, ℕ, List, codes, decimal, sym, ◌∙◌, arith, append_assoc}
 use Rattle.xsfq_cli.specs.WireTexts.{header_line}
 use Rattle.xsfq_cli.proofs.PartsOfTexts.{decimal_once}
 

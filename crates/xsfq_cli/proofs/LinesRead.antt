@@ -1,5 +1,5 @@
 -- The lines of inputs and outputs, read from the left.
-use Rattle.std.proofs.Common.{◌≡◌, ◌++◌, ◌∷◌, [], ◌<◌, ◌≤◌, ◌+◌, ◌-◌, ◌*◌, ◌^◌, ℕ, zero, suc, List, length, decimal, ap, sym, ◌∙◌, arith, append_assoc, append-nil, refl, inl, inr, subst, ◌==◌}
+use Rattle.std.proofs.Common.{◌≡◌, ◌++◌, ◌∷◌, [], ◌<◌, ◌≤◌, ◌+◌, ◌-◌, ◌*◌, ◌^◌, ℕ, suc, List, length, decimal, ap, sym, ◌∙◌, arith, append_assoc, append-nil, refl, inl, inr, subst, ◌==◌}
 use Rattle.std.specs.List.{flat_map}
 use Rattle.cell_netlist.specs.Lists.{IsIn, occurrences}
 use Rattle.std.proofs.lemmas.Bool.{eq-eqb}

@@ -1,12 +1,11 @@
 -- Where a byte parts a text, and that decimals hold no such byte.
 use Rattle.std.proofs.Math.Seq.{take-append_seam}
-use Rattle.std.proofs.Common.{nat_eq, Bor, MatchOption, IfSome, take-append-drop, ltb-true, ltb-false, take_all, ◌≡◌, ◌++◌, ◌∷◌, [], ◌+◌, ◌<◌, ◌≤◌, ◌^◌, ◌-◌, ℕ, zero, suc, Bool, true, false, not, cond, List, length, take, drop, get_or, nat_lt, Option, Some, None, IfNone, decimal, position, ◌==◌, ap, sym, ◌∙◌, subst, refl, arith, if◌then◌else◌}
-use Rattle.std.specs.List.{prefix_len, position_or_len}
+use Rattle.std.proofs.Common.{nat_eq, Bor, MatchOption, IfSome, take-append-drop, ltb-true, ltb-false, take_all, ◌≡◌, ◌++◌, ◌∷◌, [], ◌+◌, ◌<◌, ◌^◌, ℕ, suc, Bool, true, false, not, cond, List, length, take, drop, nat_lt, Option, Some, None, IfNone, decimal, position, ◌==◌, ap, sym, ◌∙◌, subst, refl, arith, if◌then◌else◌}
+use Rattle.std.specs.List.{prefix_len}
 use Rattle.std.specs.Str.Parse.{AllDigits}
-use Rattle.std.proofs.lemmas.Fmt.{decimal_is_IsNumeral, decimal_injective, IsAscii-decimal, parse-decimal}
+use Rattle.std.proofs.lemmas.Fmt.{decimal_is_IsNumeral, decimal_injective}
 use Rattle.std.proofs.lemmas.Str.Parse.{digit_from_value}
 use Rattle.std.specs.Cmp.Lexicographic.{pointwise, same_text, other_text}
-use Rattle.std.proofs.lemmas.Grind.{common_steps}
 use Rattle.std.proofs.lemmas.Bool.{eqb-true, ne_eqb, eq-eqb}
 use Rattle.cell_netlist.specs.Lists.{occurrences}
 use Rattle.xsfq_cli.specs.Parting.{IsPartedAt}

@@ -1,15 +1,15 @@
 -- What two pieces written one after the other come to.
-use Rattle.std.proofs.Common.{map, codes, decimal, ◌<◌, ◌+◌, ◌∷◌, zero, suc, length, take, drop, get_or, append_assoc, append-nil, ◌≡◌, ℕ, List, [], ◌++◌, Result, Ok, Err, IsErr, IsOk, ap, sym, subst, refl, ◌∙◌, arith}
+use Rattle.std.proofs.Common.{map, codes, decimal, ◌<◌, ◌∷◌, zero, suc, length, take, drop, get_or, append_assoc, append-nil, ◌≡◌, ℕ, List, [], ◌++◌, Result, Ok, Err, IsErr, IsOk, ap, sym, subst, refl, ◌∙◌, arith}
 use Rattle.std.specs.declared.option.Option.{Option}
 use Rattle.std.specs.List.{flat_map}
 use Rattle.std.specs.Io.KnownBytes.{Appends}
 use Rattle.std.proofs.KnownBytes.{Appends-nil, Appends-trans}
-use Rattle.byte_ports.specs.Causes.{Rose, HasCause}
+use Rattle.byte_ports.specs.Causes.{Rose}
 use Rattle.byte_ports.specs.Fronts.{TookFront}
 use Rattle.byte_ports.proofs.TakenFronts.{front_of_first, front_of_second}
-use Rattle.xsfq_cli.specs.Writing.{WritesText, word_text, spaced, head_text, lines_text, rail_line, cell_line}
+use Rattle.xsfq_cli.specs.Writing.{WritesText, word_text, spaced, head_text, lines_text}
 use Rattle.xsfq_cli.specs.declared.writing.Word.{Word}
-use Rattle.cell_netlist.specs.Text.{line_of, text_of, rail_words, cell_words, name_words, netlist_words}
+use Rattle.cell_netlist.specs.Text.{line_of, text_of, rail_words, cell_words}
 use Rattle.cell_netlist.specs.NetlistLines.{NetlistLines}
 
 -- nothing to write

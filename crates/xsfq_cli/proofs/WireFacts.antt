@@ -1,5 +1,5 @@
 -- What a wire text says of its length and of its machine.
-use Rattle.std.proofs.Common.{◌≡◌, ◌≤◌, ◌<◌, ◌+◌, ◌-◌, ◌*◌, ◌/◌, ◌%◌, ◌^◌, ◌++◌, ◌∷◌, [], ◌==◌, ℕ, zero, suc, Bool, true, false, List, length, map, Option, Some, None, IfSome, ap, sym, ◌∙◌, subst, refl, inl, inr, arith, decimal, codes, if◌then◌else◌, append-nil}
+use Rattle.std.proofs.Common.{◌≡◌, ◌≤◌, ◌<◌, ◌+◌, ◌-◌, ◌*◌, ◌/◌, ◌%◌, ◌++◌, ◌∷◌, [], ◌==◌, ℕ, zero, suc, Bool, true, false, List, length, map, Option, Some, None, IfSome, ap, sym, ◌∙◌, subst, refl, inl, inr, arith, decimal, if◌then◌else◌, append-nil}
 use Rattle.std.specs.Prelude.{All}
 use Rattle.std.specs.List.{flat_map}
 use Rattle.std.specs.Io.KnownBytes.{Consumes, IsAtEnd}
@@ -7,11 +7,11 @@ use Rattle.std.proofs.lemmas.List.{length-append}
 use Rattle.std.proofs.lemmas.Fmt.{length-decimal-le}
 use Rattle.std.proofs.lemmas.Bool.{eqb-true, eqb-false, eq-eqb, ne_eqb}
 use Rattle.std.proofs.lemmas.Bool.Decides.{eqb_tells}
-use Rattle.source_machine.specs.Machines.{PlainLiteral, PlainMachine}
+use Rattle.source_machine.specs.Machines.{PlainMachine}
 use Rattle.cell_netlist.specs.Lists.{IsIn, occurrences, upto}
 use Rattle.xsfq_cli.specs.Compiled.{TakesAll}
 use Rattle.xsfq_cli.specs.Verdicts.{HasVerdict, Reads, Unbuilt}
-use Rattle.xsfq_cli.specs.WireTexts.{number_line, input_lines, header_line, wire_text, AreOutputs, IsWireText, literal_of_code, wire_machine}
+use Rattle.xsfq_cli.specs.WireTexts.{number_line, input_lines, header_line, IsWireText, literal_of_code}
 use Rattle.xsfq_cli.specs.WireNetlists.{slot_of, IsInSlots, AreWires}
 use Rattle.xsfq_cli.proofs.WiresMapped.{length_mapped}
 

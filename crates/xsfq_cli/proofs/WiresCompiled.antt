@@ -1,19 +1,18 @@
 -- The netlist of a wire text delivers its machine, whatever the order of deliveries.
-use Rattle.std.proofs.Common.{◌≡◌, ◌≤◌, ◌<◌, ◌+◌, ◌*◌, ◌/◌, ◌++◌, ◌∷◌, [], inl, inr, ℕ, zero, suc, Bool, true, List, length, map, replicate, Option, Some, None, ap, sym, ◌∙◌, subst, refl, arith, slice_get}
+use Rattle.std.proofs.Common.{◌≡◌, ◌≤◌, ◌<◌, ◌+◌, ◌*◌, ◌++◌, ◌∷◌, [], inl, inr, ℕ, zero, suc, Bool, true, List, length, replicate, Option, Some, None, ap, sym, ◌∙◌, subst, refl, arith, slice_get}
 use Rattle.std.specs.Prelude.{slice_index_or}
-use Rattle.source_machine.specs.Machines.{PlainLiteral, PlainMachine}
+use Rattle.source_machine.specs.Machines.{PlainMachine}
 use Rattle.source_machine.specs.Runs.{IsRun, bit_of}
-use Rattle.source_machine.specs.Laws.{AreVectors, RunsAreEqual, RunExists}
+use Rattle.source_machine.specs.Laws.{RunsAreEqual, RunExists}
 use Rattle.pulse_ids.specs.Ids.{numbered}
 use Rattle.pulse_ids.specs.declared.literals.Sign.TheVariants.{Pos}
 use Rattle.cell_netlist.specs.declared.lines.Rail.{Rail}
 use Rattle.cell_netlist.specs.declared.kinds.Ask.TheVariants as asks
 use Rattle.cell_netlist.specs.Asked.{Asks}
-use Rattle.cell_netlist.specs.Lists.{IsIn, occurrences}
+use Rattle.cell_netlist.specs.Lists.{IsIn}
 use Rattle.cell_netlist.specs.NetlistLines.{NetlistLines, wire_of}
-use Rattle.cell_netlist.specs.Delivery.{Delivers}
 use Rattle.pulse_world.specs.EveryOrder.{InputCarries, InputsCarry, BitLawWithoutCells}
-use Rattle.xsfq_cli.specs.Compiled.{IsCompiled, Named}
+use Rattle.xsfq_cli.specs.Compiled.{IsCompiled}
 use Rattle.xsfq_cli.specs.Verdicts.{HasVerdict, Reads}
 use Rattle.xsfq_cli.specs.WireTexts.{IsWireText, wire_machine}
 use Rattle.xsfq_cli.specs.WireNetlists.{IsInSlots, AreWires, slot_of, slots_of, is_needed, rank, passing_below, input_rail, input_rails_from, wires_netlist}

@@ -1,5 +1,5 @@
 -- The slots of a machine of wires, their ranks, and the netlist over them.
-use Rattle.std.proofs.Common.{◌≡◌, ◌≤◌, ◌<◌, ◌+◌, ◌*◌, ◌-◌, ◌++◌, ◌∷◌, [], ◌⊎◌, inl, inr, ℕ, zero, suc, Bool, true, false, List, length, map, get_or, set, take, nat_lt, ◌==◌, ap, sym, ◌∙◌, subst, refl, arith, cond, if◌then◌else◌, append-nil, min, ◌^◌}
+use Rattle.std.proofs.Common.{◌≡◌, ◌≤◌, ◌<◌, ◌+◌, ◌*◌, ◌-◌, ◌++◌, ◌∷◌, [], inl, inr, ℕ, zero, suc, Bool, true, false, List, length, map, get_or, set, take, nat_lt, ap, sym, ◌∙◌, subst, refl, arith, if◌then◌else◌, append-nil, min, ◌^◌}
 use Rattle.std.proofs.Math.ListN.{length-set, get_or-append, get_or-map}
 use Rattle.std.proofs.lemmas.List.{map-append, take_more, length-append}
 use Rattle.std.specs.Prelude.{slice_index, All}

@@ -1,24 +1,21 @@
 -- The netlist of wires is sound, and its rails are as asked.
-use Rattle.std.proofs.Common.{◌≡◌, ◌≤◌, ◌<◌, ◌+◌, ◌-◌, ◌*◌, ◌/◌, ◌%◌, ◌^◌, ◌++◌, ◌∷◌, [], ◌==◌, ◌⊎◌, inl, inr, ℕ, zero, suc, Bool, true, false, List, length, map, max, Option, Some, None, ap, sym, ◌∙◌, subst, refl, arith, nat_lt, if◌then◌else◌, append-nil, append_assoc, ltb-true, slice_get}
-use Rattle.std.specs.List.{flat_map}
-use Rattle.std.proofs.lemmas.List.{length-append, map-append}
+use Rattle.std.proofs.Common.{◌≡◌, ◌≤◌, ◌<◌, ◌+◌, ◌*◌, ◌/◌, ◌%◌, ◌++◌, ◌∷◌, [], ◌==◌, ◌⊎◌, inl, inr, ℕ, zero, suc, Bool, true, false, List, length, map, max, Some, ap, sym, ◌∙◌, subst, refl, arith, if◌then◌else◌, append-nil, append_assoc, ltb-true, slice_get}
+use Rattle.std.proofs.lemmas.List.{length-append}
 use Rattle.std.proofs.lemmas.Grind.{flat_map-append}
 use Rattle.std.proofs.lemmas.Bool.{eqb-true, eqb-false, eq-eqb, ne_eqb, lt-ltb}
-use Rattle.std.proofs.lemmas.Bool.Decides.{eqb_tells}
 use Rattle.pulse_ids.specs.Ids.{numbered}
 use Rattle.pulse_ids.specs.declared.literals.Sign.{Sign}
 use Rattle.pulse_ids.specs.declared.literals.Sign.TheVariants.{Pos, Neg}
 use Rattle.cell_netlist.specs.declared.lines.Rail.{Rail}
-use Rattle.cell_netlist.specs.declared.lines.Cell.{Cell}
 use Rattle.cell_netlist.specs.declared.kinds.Ask.TheVariants as asks
 use Rattle.cell_netlist.specs.Lists.{IsIn, occurrences, upto}
 use Rattle.cell_netlist.specs.Asked.{Asks, rail_of, asked_rails}
-use Rattle.cell_netlist.specs.NetlistLines.{NetlistLines, wire_of, wire_bound, number_of_wires, driven, read, IsNetlist, netlist_of}
+use Rattle.cell_netlist.specs.NetlistLines.{wire_of, wire_bound, number_of_wires, driven, read, IsNetlist}
 use Rattle.cell_netlist.specs.Sound.{IsSound}
 use Rattle.xsfq_cli.specs.WireNetlists.{is_needed, passing_below, rank, sign_of_slot, input_rail, input_rails_from, output_rails_from, wires_netlist}
-use Rattle.xsfq_cli.proofs.PartsOfTexts.{occurrences-append, weight}
+use Rattle.xsfq_cli.proofs.PartsOfTexts.{weight}
 use Rattle.xsfq_cli.proofs.CodeTables.{same_or_not}
-use Rattle.xsfq_cli.proofs.WiresMapped.{input_rails_from-append, length-input_rails_from, length-passing_below-le, length-output_rails_from, one_or_none}
+use Rattle.xsfq_cli.proofs.WiresMapped.{length-passing_below-le}
 
 -- members and occurrences
 

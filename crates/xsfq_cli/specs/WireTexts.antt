@@ -1,6 +1,6 @@
 -- Wire texts: ASCII AIGER sources of inputs and outputs alone, in one strict spelling, and the machines that
 -- they write.
-use Rattle.std.specs.Prelude.{◌≡◌, ◌≤◌, ◌+◌, ◌*◌, ◌/◌, ◌%◌, ◌==◌, ◌++◌, ◌∷◌, [], ℕ, zero, suc, Bool, Option, None, List, map, length, replicate, codes, decimal}
+use Rattle.std.specs.Prelude.{◌≡◌, ◌≤◌, ◌+◌, ◌*◌, ◌/◌, ◌%◌, ◌==◌, ◌++◌, ◌∷◌, [], ℕ, zero, suc, Option, None, List, map, length, replicate, codes, decimal}
 use Rattle.std.specs.List.{flat_map}
 use Rattle.source_machine.specs.Machines.{PlainLiteral, PlainMachine}
 use Rattle.cell_netlist.specs.Lists.{IsIn, occurrences, upto}

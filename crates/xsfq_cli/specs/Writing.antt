@@ -1,5 +1,5 @@
 -- What writing a text to a sink may do.
-use Rattle.std.specs.Prelude.{◌≡◌, ◌∷◌, ◌++◌, [], codes, ℕ, List, Result, OnOk, OnErr, decimal}
+use Rattle.std.specs.Prelude.{◌∷◌, ◌++◌, [], codes, ℕ, List, Result, OnOk, OnErr, decimal}
 use Rattle.std.specs.List.{flat_map}
 use Rattle.std.specs.declared.option.Option.{Option}
 use Rattle.std.specs.Io.KnownBytes.{Appends}

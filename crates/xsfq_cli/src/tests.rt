@@ -1,5 +1,7 @@
 //! The top call over ports in memory.
 
+ghost use Rattle.std.specs.Prelude.{◌≤◌};
+
 use crate::{Outcome, run};
 use byte_ports::{MemorySink, MemorySource};
 use std::alloc::Global;

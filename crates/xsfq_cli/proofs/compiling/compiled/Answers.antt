@@ -1,4 +1,4 @@
-use Rattle.std.proofs.Common.{◌∙◌, sym, subst, List, ℕ, Option}
+use Rattle.std.proofs.Common.{sym, subst, List, ℕ}
 use Rattle.std.specs.Io.KnownBytes.{Consumes}
 use Rattle.source_machine.specs.declared.machines.RawMachine.{RawMachine}
 use Rattle.source_machine.specs.Machines.{machine_of}

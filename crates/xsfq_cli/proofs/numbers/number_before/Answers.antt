@@ -1,4 +1,3 @@
-use Rattle.std.proofs.Common.{◌∙◌, sym, arith, ◌+◌, ap, subst, ℕ, List}
 use Rattle.xsfq_cli.proofs.PartsOfTexts.{if_none, no_number_without_stop, no_number_before}
 use Rattle.xsfq_cli.proofs.numbers.number_before.Goals as goal
 

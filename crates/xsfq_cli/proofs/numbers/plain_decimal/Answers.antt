@@ -1,4 +1,4 @@
-use Rattle.std.proofs.Common.{◌≡◌, ℕ, ◌<◌, ◌^◌, List, Ok, arith, sym, ◌∙◌, ap, subst, decimal}
+use Rattle.std.proofs.Common.{◌≡◌, arith, sym, ◌∙◌, ap, subst, decimal}
 use Rattle.std.specs.Str.{IsUtf8}
 use Rattle.std.specs.Cmp.Lexicographic.{other_text}
 use Rattle.std.proofs.lemmas.Str.{IsUtf8-from_ascii}

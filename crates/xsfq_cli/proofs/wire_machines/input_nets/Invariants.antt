@@ -1,8 +1,6 @@
-use Rattle.std.proofs.Common.{◌≡◌, ◌+◌, map, take}
+use Rattle.std.proofs.Common.{◌≡◌, ◌+◌, map}
 use Rattle.pulse_ids.specs.Ids.{NetId}
 use Rattle.cell_netlist.specs.Lists.{upto}
-use Rattle.source_machine.specs.Machines.{literal_of}
-use Rattle.xsfq_cli.specs.WireTexts.{unnamed, literal_of_code}
 use Rattle.xsfq_cli.proofs.wire_machines.input_nets.Given as goal
 
 abbrev pub invariant-loop-k : goal.invariant-loop-k

@@ -1,8 +1,6 @@
-use Rattle.std.proofs.Common.{◌≡◌, ◌+◌, map, take}
-use Rattle.pulse_ids.specs.Ids.{NetId}
-use Rattle.cell_netlist.specs.Lists.{upto}
+use Rattle.std.proofs.Common.{◌≡◌, map, take}
 use Rattle.source_machine.specs.Machines.{literal_of}
-use Rattle.xsfq_cli.specs.WireTexts.{unnamed, literal_of_code}
+use Rattle.xsfq_cli.specs.WireTexts.{literal_of_code}
 use Rattle.xsfq_cli.proofs.wire_machines.output_literals.Given as goal
 
 abbrev pub invariant-loop-code : goal.invariant-loop-code

@@ -1,4 +1,4 @@
-use Rattle.std.proofs.Common.{◌≡◌, ◌∙◌, ap, sym, length, arith, add-one, refl}
+use Rattle.std.proofs.Common.{◌≡◌, ◌∙◌, ap, length, arith, add-one, refl}
 use Rattle.cell_netlist.specs.Lists.{bit_at}
 use Rattle.cell_netlist.specs.NetlistLines.{NetlistLines}
 use Rattle.xsfq_cli.specs.WireNetlists.{passing_below, rank}

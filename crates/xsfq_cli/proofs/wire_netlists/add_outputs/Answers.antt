@@ -1,6 +1,5 @@
-use Rattle.std.proofs.Common.{◌≡◌, ◌∙◌, ap, sym, length, map, take, arith, ℕ, get_or, false, ◌++◌, ◌∷◌, []}
+use Rattle.std.proofs.Common.{◌≡◌, ◌∙◌, ap, length, map, take, arith, ℕ, get_or, false, ◌++◌, ◌∷◌, []}
 use Rattle.std.specs.Prelude.{slice_index}
-use Rattle.std.proofs.lemmas.List.{length-map, length-take}
 use Rattle.pulse_ids.specs.Ids.{Lit, WireId, numbered}
 use Rattle.pulse_ids.specs.declared.literals.Sign.TheVariants.{Pos}
 use Rattle.source_machine.specs.Machines.{literal_of}

@@ -1,7 +1,5 @@
-use Rattle.std.proofs.Common.{sym, subst, arith, ℕ, ◌<◌, ◌*◌, false}
-use Rattle.xsfq_cli.specs.WireNetlists.{IsInSlots}
-use Rattle.source_machine.specs.Machines.{literal_of}
-use Rattle.pulse_ids.specs.Ids.{Lit, numbered}
+use Rattle.std.proofs.Common.{sym, subst, ◌<◌, ◌*◌, false}
+use Rattle.pulse_ids.specs.Ids.{numbered}
 use Rattle.xsfq_cli.proofs.WiresMapped.{MarksNeeded-behind, slot_in_range, slots-behind}
 use Rattle.xsfq_cli.proofs.wire_netlists.needed_slots.Goals as goal
 

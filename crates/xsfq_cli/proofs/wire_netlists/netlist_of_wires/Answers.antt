@@ -1,10 +1,10 @@
-use Rattle.std.proofs.Common.{◌≡◌, ◌∙◌, ap, sym, arith, length, map, subst, List, ℕ, ◌<◌, ◌*◌, [], ◌^◌, Bool, get_or}
+use Rattle.std.proofs.Common.{◌≡◌, ◌∙◌, ap, sym, arith, length, map, subst, List, ℕ, ◌<◌, ◌*◌, [], Bool, get_or}
 use Rattle.std.specs.Prelude.{slice_index}
 use Rattle.pulse_ids.specs.Ids.{Lit}
-use Rattle.source_machine.specs.Machines.{literal_of, PlainLiteral}
+use Rattle.source_machine.specs.Machines.{literal_of}
 use Rattle.cell_netlist.specs.Lists.{bit_at, IsIn}
 use Rattle.cell_netlist.specs.NetlistLines.{netlist_of}
-use Rattle.xsfq_cli.specs.WireNetlists.{slot_of, IsInSlots, MarksNeeded, passing_below, input_rails_from, output_rails_from, ranks_below, wires_netlist}
+use Rattle.xsfq_cli.specs.WireNetlists.{slot_of, IsInSlots, MarksNeeded, passing_below, input_rails_from, output_rails_from, wires_netlist}
 use Rattle.xsfq_cli.proofs.WiresMapped.{literal_fits, slot_in_range, slots_fit, member_of_all, ranks_small, wires_made, steps_made, slots-mapped, length_mapped, length-ranks_below}
 use Rattle.xsfq_cli.proofs.wire_netlists.netlist_of_wires.Goals as goal
 

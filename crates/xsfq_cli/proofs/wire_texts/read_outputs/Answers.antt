@@ -1,11 +1,11 @@
-use Rattle.std.proofs.Common.{◌≡◌, ℕ, List, length, refl, sym, ap, ◌∙◌, arith, rules, subst, ◌++◌, ◌∷◌, []}
+use Rattle.std.proofs.Common.{length, sym, ap, ◌∙◌, arith, subst, ◌++◌, ◌∷◌, []}
 use Rattle.std.specs.List.{flat_map}
 use Rattle.std.proofs.lemmas.List.{length-append}
 use Rattle.xsfq_cli.specs.WireTexts.{number_line}
 use Rattle.std.proofs.lemmas.Bool.{eqb-false, eqb-true}
 use Rattle.xsfq_cli.specs.OutputCodes.{CanAdd, CodeTable, AreCodes}
 use Rattle.xsfq_cli.proofs.CodeTables.{AreCodes-behind}
-use Rattle.xsfq_cli.proofs.LinesRead.{next_output, no_output_left, outputs_of_table, lines-behind, number_line_once, nothing_left}
+use Rattle.xsfq_cli.proofs.LinesRead.{next_output, no_output_left, outputs_of_table, lines-behind, nothing_left}
 use Rattle.xsfq_cli.proofs.PartsOfTexts.{decimal_once}
 use Rattle.xsfq_cli.proofs.wire_texts.read_outputs.Goals as goal
 

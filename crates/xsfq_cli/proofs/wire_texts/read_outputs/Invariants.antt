@@ -1,4 +1,4 @@
-use Rattle.std.proofs.Common.{◌≡◌, ◌+◌, ◌*◌, ◌++◌, ℕ, List, length}
+use Rattle.std.proofs.Common.{◌≡◌, ◌+◌, ◌*◌, ◌++◌, length}
 use Rattle.std.specs.List.{flat_map}
 use Rattle.xsfq_cli.specs.OutputCodes.{AreCodes}
 use Rattle.xsfq_cli.specs.WireTexts.{number_line}

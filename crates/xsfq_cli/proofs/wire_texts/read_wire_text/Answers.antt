@@ -1,4 +1,4 @@
-use Rattle.std.proofs.Common.{◌≡◌, ◌++◌, ◌∙◌, ℕ, List, sym, ap, subst, arith, length}
+use Rattle.std.proofs.Common.{◌++◌, ◌∙◌, sym, ap, subst, length}
 use Rattle.std.specs.List.{flat_map}
 use Rattle.xsfq_cli.specs.WireTexts.{input_lines, number_line, AreOutputs}
 use Rattle.xsfq_cli.proofs.PartsOfTexts.{none_so}

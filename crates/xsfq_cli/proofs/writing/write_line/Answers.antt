@@ -1,6 +1,6 @@
-use Rattle.std.proofs.Common.{◌∷◌, [], ◌++◌, subst, sym}
+use Rattle.std.proofs.Common.{◌∷◌, [], ◌++◌}
 use Rattle.std.specs.List.{flat_map}
-use Rattle.xsfq_cli.specs.Writing.{spaced, WritesText}
+use Rattle.xsfq_cli.specs.Writing.{spaced}
 use Rattle.xsfq_cli.proofs.TextsWritten.{wrote_first, wrote_second, ok_so, err_so, line_in_pieces}
 use Rattle.xsfq_cli.proofs.writing.write_line.Goals as goal
 

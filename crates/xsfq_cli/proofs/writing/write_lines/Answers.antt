@@ -1,4 +1,4 @@
-use Rattle.std.proofs.Common.{◌∷◌, [], ◌++◌, ◌∙◌, codes}
+use Rattle.std.proofs.Common.{◌++◌, ◌∙◌, codes}
 use Rattle.std.specs.List.{flat_map}
 use Rattle.xsfq_cli.specs.Writing.{rail_line, cell_line}
 use Rattle.xsfq_cli.proofs.TextsWritten.{wrote_first, wrote_second, ok_so, err_so, written_of}

@@ -1,4 +1,4 @@
-use Rattle.std.proofs.Common.{◌∷◌, [], ◌++◌, codes}
+use Rattle.std.proofs.Common.{◌++◌, codes}
 use Rattle.xsfq_cli.specs.Writing.{head_text, lines_text}
 use Rattle.xsfq_cli.proofs.TextsWritten.{wrote_first, wrote_second, ok_so, err_so, text_in_pieces}
 use Rattle.xsfq_cli.proofs.writing.write_netlist.Goals as goal

@@ -26,8 +26,8 @@ pub enum Outcome {
 
 impl Outcome {
     /// The exit code of the program.
-    pub fn code(self) -> u8
-        ensures { result ≡ code_of self }
+    pub fn code(&self) -> u8
+        ensures { result ≡ code_of self.now }
     {
         match self {
             Outcome::Done => 0,

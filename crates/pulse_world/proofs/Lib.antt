@@ -13,3 +13,5 @@ pub mod Existence
 pub mod OutputBits
 pub mod Due
 pub mod Agreement
+pub mod SmallNetlists
+pub mod Unsound

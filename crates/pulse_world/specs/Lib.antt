@@ -1,2 +1,3 @@
 pub mod EveryOrder
 pub mod DuePulses
+pub mod Examples

@@ -4,8 +4,10 @@
 //! what bit each wire has in each cycle.
 #![tactic(auto)]
 
+mod examples;
 mod orders;
 
+pub use examples::examples_deliver;
 pub use orders::{
     equation_runs, every_order, every_order_without_cells, pulses_per_cycle, rails_to_bits,
 };

@@ -47,7 +47,7 @@ Splits-out (Fa a b out) from to h = absurd h
 Splits-out (Split source left right) from to h = h.1
 Splits-out (Droc role preload feed q n) from to h = absurd h
 
-Splits-test : (cell : Cell) (from to : ℕ) → Splits cell from to → (splits_to to cell ≡ true) × (source_of cell ≡ from)
+pub Splits-test : (cell : Cell) (from to : ℕ) → Splits cell from to → (splits_to to cell ≡ true) × (source_of cell ≡ from)
 Splits-test (La a b out) from to h = absurd h
 Splits-test (Fa a b out) from to h = absurd h
 Splits-test (Split source left right) from to h = (
@@ -95,7 +95,7 @@ still-in x y (z ∷ xs) (inr h) (inl g) other = inl g
 still-in x y (z ∷ xs) (inr h) (inr g) other = inr (still-in x y xs h g other)
 
 -- where each number below m is met by an item, and no item meets two numbers, there are m items
-enough : {X : Type 0} (Meets : ℕ → X → Type 0) → ((d e : ℕ) (x : X) → Meets d x → Meets e x → d ≡ e) → (m : ℕ) (xs : List X)
+pub enough : {X : Type 0} (Meets : ℕ → X → Type 0) → ((d e : ℕ) (x : X) → Meets d x → Meets e x → d ≡ e) → (m : ℕ) (xs : List X)
     → ((d : ℕ) → d < m → (x : X) × IsIn x xs × Meets d x) → m ≤ length xs
 enough Meets one zero xs all = omega arith
 enough Meets one (suc m) xs all =
@@ -119,14 +119,14 @@ module _ (net : NetlistLines) (once : is_none_driven_twice net ≡ true) where
         let none = occurrences-past w (driven net) (omega arith) in omega arith
   ]
 
-  above_is : (from w : ℕ) → HasSplitter net from w → splitter_above net.cells w ≡ Some from
+  pub above_is : (from w : ℕ) → HasSplitter net from w → splitter_above net.cells w ≡ Some from
   above_is from w h =
       let total = occurrences-append w (map wire_of net.input_rails) (flat_map outs net.cells) in
       let all = driven_once w in
       above-only net.cells from w h.0 (omega arith) h.1 h.2
 
   -- the last splitter of a chain
-  last_of : (n from to : ℕ) → SplittersBelow net (suc n) from to → (mid : ℕ) × SplittersBelow net n from mid × HasSplitter net mid to
+  pub last_of : (n from to : ℕ) → SplittersBelow net (suc n) from to → (mid : ℕ) × SplittersBelow net n from mid × HasSplitter net mid to
   last_of zero from to h = (from, refl, subst (λ w. HasSplitter net from w) h.2 h.1)
   last_of (suc n) from to h = let rest = last_of n h.0 to h.2 in (rest.0, (h.0, h.1, rest.1), rest.2)
 

@@ -6,6 +6,9 @@ pub mod LeanTests
 pub mod Played
 pub mod ExampleRuns
 pub mod Refusals
+pub mod FirstRefusals
+pub mod SoundIsTested
+pub mod RefusalFound
 pub mod ExampleRefusals
 pub mod ExampleLeanness
 pub mod ExampleBits

@@ -82,7 +82,7 @@ passes-right net (WrongPreload id) b e =
 abbrev pub bound : NetlistLines → ℕ
 bound net = number_of_wires net + (length net.input_rails + (length net.output_rails + length net.cells))
 
-in_bound : (net : NetlistLines) (unsound : Unsound) → Breaks net unsound → number_in unsound < bound net
+pub in_bound : (net : NetlistLines) (unsound : Unsound) → Breaks net unsound → number_in unsound < bound net
 in_bound net (WireUndriven wire) b = omega (arith, b.0)
 in_bound net (WireTwiceDriven wire) b = elim (cases_lt wire.number (number_of_wires net)) [
   | inl lt ↦ omega arith

@@ -1,5 +1,5 @@
 -- The tests of soundness tell the rules.
-use Rattle.std.proofs.Common.{◌≡◌, ℕ, zero, suc, Bool, true, false, not, ◌&&◌, ◌==◌, nat_lt, Option, Some, None, is_none, List, [], ◌∷◌, ◌++◌, map, length, ap, sym, ◌∙◌, subst, inl, inr, arith, refl, if◌then◌else◌}
+use Rattle.std.proofs.Common.{◌≡◌, ◌<◌, ◌≤◌, ◌↔◌, slice_get, ℕ, zero, suc, Bool, true, false, not, ◌&&◌, ◌==◌, nat_lt, Option, Some, None, is_none, List, [], ◌∷◌, ◌++◌, map, length, ap, sym, ◌∙◌, subst, inl, inr, arith, refl, if◌then◌else◌}
 use Rattle.std.specs.List.{flat_map, list_any, list_all}
 use Rattle.std.proofs.lemmas.Bool.{and_parts, and_from, or_cases, eqb-true, eq-eqb, cases_Bool, ltb-true, lt-ltb, true≢false}
 use Rattle.pulse_ids.specs.Ids.{WireId}
@@ -10,11 +10,11 @@ use Rattle.cell_netlist.specs.declared.lines.Rail.{Rail}
 use Rattle.cell_netlist.specs.declared.lines.Cell.{Cell}
 use Rattle.cell_netlist.specs.declared.lines.Cell.TheVariants.{La, Fa, Split, Droc}
 use Rattle.cell_netlist.specs.Lists.{IsIn, occurrences}
-use Rattle.cell_netlist.specs.NetlistLines.{NetlistLines, wire_of, outs, reads, driven, read, IsDroc, Grounded, of_rail, of_droc, of_gate, Splits, HasSplitter, SplittersBelow}
+use Rattle.cell_netlist.specs.NetlistLines.{NetlistLines, wire_of, outs, reads, driven, read, number_of_wires, IsDroc, Grounded, of_rail, of_droc, of_gate, Splits, HasSplitter, SplittersBelow}
 use Rattle.cell_netlist.specs.RailEquations.{is_front_to, is_back_from, preload_of}
 use Rattle.cell_netlist.specs.Sound.{IsOn, IsDrocOf, HasQ, FitsRole, IsFrontTo, IsBackFrom, IsSound}
 use Rattle.cell_netlist.specs.Tests as tests
-use Rattle.cell_netlist.specs.Tests.{all_below, all_pairs, is_some_with, has, is_same_sign, are_other_rails, droc_outs, is_ready, known_through, known_after, are_outs_known, splits_to, source_of, splitter_above, climbs_to, number_on, fits_role, link_of, differ, have_right_preloads, is_sound, AreTestsOfRules}
+use Rattle.cell_netlist.specs.Tests.{all_below, all_pairs, is_some_with, has, is_same_sign, are_other_rails, droc_outs, is_ready, known_through, known_after, are_outs_known, splits_to, source_of, splitter_above, climbs_to, number_on, fits_role, link_of, differ, have_right_preloads, are_ports_below, is_no_rail_twice, is_sound}
 use Rattle.cell_netlist.proofs.ListLemmas.{all_below-at, all_below-from, IsIn-parts, list_all-at, list_all-from, list_any-at, all_pairs-at, all_pairs-from, is_some_with-at, IsIn-map, IsIn-flat_map, has-at}
 
 -- the same sign
@@ -97,7 +97,7 @@ module _ (net : NetlistLines) where
   ]
   known_after-grounded (suc n) w h = known_through-grounded net.cells (λ c g. g) (known_after net n) (known_after-grounded n) w h
 
-  grounded-at : tests.is_all_grounded net ≡ true → (cell : Cell) → IsIn cell net.cells → (IsDroc cell → ⊥) → (wire : ℕ) → IsIn wire (outs cell) → Grounded net wire
+  pub grounded-at : tests.is_all_grounded net ≡ true → (cell : Cell) → IsIn cell net.cells → (IsDroc cell → ⊥) → (wire : ℕ) → IsIn wire (outs cell) → Grounded net wire
   grounded-at e cell among gate wire h =
       let known = known_after net (length net.cells) in
       let outs_known = list_all-at (are_outs_known known) net.cells e cell among in
@@ -149,7 +149,7 @@ module _ (net : NetlistLines) where
   front-at (Droc Back preload feed q n) w e = absurd cc
   front-at (Droc Const preload feed q n) w e = absurd cc
 
-  back-at : (cell : Cell) (w : ℕ) → is_back_from w cell ≡ true → IsDrocOf cell Back (preload_of cell) w
+  pub back-at : (cell : Cell) (w : ℕ) → is_back_from w cell ≡ true → IsDrocOf cell Back (preload_of cell) w
   back-at (La a b out) w e = absurd cc
   back-at (Fa a b out) w e = absurd cc
   back-at (Split from left right) w e = absurd cc
@@ -176,7 +176,7 @@ module _ (net : NetlistLines) where
       (own.0, on-at n own.0 own.1, chain.0, chain.1)
 
   -- two preloads that differ
-  differ-at : (front back : Bool) → differ front back ≡ true → back ≡ not front
+  pub differ-at : (front back : Bool) → differ front back ≡ true → back ≡ not front
   differ-at false false e = absurd cc
   differ-at false true e = refl
   differ-at true false e = refl
@@ -191,7 +191,7 @@ module _ (net : NetlistLines) where
   link-from (Droc Back its_preload its_feed its_q n) preload feed link role q = let r = role.0 in absurd cc
   link-from (Droc Const its_preload its_feed its_q n) preload feed link role q = let r = role.0 in absurd cc
 
-  back-from : (cell : Cell) (preload : Bool) (link : ℕ) → IsDrocOf cell Back preload link → (is_back_from link cell ≡ true) × (preload_of cell ≡ preload)
+  pub back-from : (cell : Cell) (preload : Bool) (link : ℕ) → IsDrocOf cell Back preload link → (is_back_from link cell ≡ true) × (preload_of cell ≡ preload)
   back-from (La a b out) preload link role = absurd role
   back-from (Fa a b out) preload link role = absurd role
   back-from (Split from left right) preload link role = absurd role
@@ -211,46 +211,58 @@ module _ (net : NetlistLines) where
         | inr hit ↦ subst (λ b. b ≡ not front) its_feed.1 (subst (λ f. preload_of back_cell ≡ not f) its_link.1 (differ-at _ _ hit))
       ]
 
-  preloads-at : tests.is_all_complement net ≡ true → (link : ℕ) (front back : Bool) → IsFrontTo net link front → IsBackFrom net link back → back ≡ not front
+  pub preloads-at : tests.is_all_complement net ≡ true → (link : ℕ) (front back : Bool) → IsFrontTo net link front → IsBackFrom net link back → back ≡ not front
   preloads-at e link front back of_front of_back =
       let pair = list_all-at (have_right_preloads of_front.front) net.cells
       (list_all-at (λ f. list_all (have_right_preloads f) net.cells) net.cells e of_front.front of_front.among) of_back.back of_back.among in
       right_preloads-at of_front.front of_back.back front back of_front.feed link pair of_front.role of_front.q of_back.role
 
-  pub tests_of_rules : AreTestsOfRules net
-  tests_of_rules = record {
-    all_driven = (
-      λ e wire lt. let t = ltb-true _ _ (all_below-at (λ w. nat_lt 0 (occurrences w (driven net))) _ e wire lt) in omega arith,
-      λ all. all_below-from (λ w. nat_lt 0 (occurrences w (driven net))) _ (λ w lt. let t = all w lt in lt-ltb _ _ (omega arith)),
-    );
-    none_driven_twice = (
-      λ e wire lt. let t = ltb-true _ _ (all_below-at (λ w. nat_lt (occurrences w (driven net)) 2) _ e wire lt) in omega arith,
-      λ all. all_below-from (λ w. nat_lt (occurrences w (driven net)) 2) _ (λ w lt. let t = all w lt in lt-ltb _ _ (omega arith)),
-    );
-    all_read = (
-      λ e wire lt. let t = ltb-true _ _ (all_below-at (λ w. nat_lt 0 (occurrences w (read net))) _ e wire lt) in omega arith,
-      λ all. all_below-from (λ w. nat_lt 0 (occurrences w (read net))) _ (λ w lt. let t = all w lt in lt-ltb _ _ (omega arith)),
-    );
-    none_read_twice = (
-      λ e wire lt. let t = ltb-true _ _ (all_below-at (λ w. nat_lt (occurrences w (read net)) 2) _ e wire lt) in omega arith,
-      λ all. all_below-from (λ w. nat_lt (occurrences w (read net)) 2) _ (λ w lt. let t = all w lt in lt-ltb _ _ (omega arith)),
-    );
-    input_ports = (
-      λ e rail h. ltb-true _ _ (list_all-at (λ r. nat_lt r.port net.inputs) _ e rail h),
-      λ all. list_all-from (λ r. nat_lt r.port net.inputs) _ (λ r h. lt-ltb _ _ (all r h)),
-    );
-    output_ports = (
-      λ e rail h. ltb-true _ _ (list_all-at (λ r. nat_lt r.port net.outputs) _ e rail h),
-      λ all. list_all-from (λ r. nat_lt r.port net.outputs) _ (λ r h. lt-ltb _ _ (all r h)),
-    );
-    none_twice = (
-      λ e first later rail other lt at_first at_later. other_rails-at rail other (all_pairs-at are_other_rails _ e first later rail other lt at_first at_later),
-      λ all. all_pairs-from are_other_rails _ (λ i j x y lt at_i at_j. other_rails-from x y (all i j x y lt at_i at_j)),
-    );
-    grounded = grounded-at;
-    roles = λ e cell h. fits-at cell (list_all-at (fits_role net.cells) net.cells e cell h);
-    preloads = preloads-at;
-  }
+  pub roles-at : tests.is_all_fitting net ≡ true → (cell : Cell) → IsIn cell net.cells → FitsRole net cell
+  roles-at e cell h = fits-at cell (list_all-at (fits_role net.cells) net.cells e cell h)
+
+  -- the tests that count or compare
+  pub all_driven-is : (tests.is_all_driven net ≡ true) ↔ ((wire : ℕ) → wire < number_of_wires net → 1 ≤ occurrences wire (driven net))
+  all_driven-is = (
+    λ e wire lt. let t = ltb-true _ _ (all_below-at (λ w. nat_lt 0 (occurrences w (driven net))) _ e wire lt) in omega arith,
+    λ all. all_below-from (λ w. nat_lt 0 (occurrences w (driven net))) _ (λ w lt. let t = all w lt in lt-ltb _ _ (omega arith)),
+  )
+
+  pub none_driven_twice-is : (tests.is_none_driven_twice net ≡ true) ↔ ((wire : ℕ) → wire < number_of_wires net → occurrences wire (driven net) ≤ 1)
+  none_driven_twice-is = (
+    λ e wire lt. let t = ltb-true _ _ (all_below-at (λ w. nat_lt (occurrences w (driven net)) 2) _ e wire lt) in omega arith,
+    λ all. all_below-from (λ w. nat_lt (occurrences w (driven net)) 2) _ (λ w lt. let t = all w lt in lt-ltb _ _ (omega arith)),
+  )
+
+  pub all_read-is : (tests.is_all_read net ≡ true) ↔ ((wire : ℕ) → wire < number_of_wires net → 1 ≤ occurrences wire (read net))
+  all_read-is = (
+    λ e wire lt. let t = ltb-true _ _ (all_below-at (λ w. nat_lt 0 (occurrences w (read net))) _ e wire lt) in omega arith,
+    λ all. all_below-from (λ w. nat_lt 0 (occurrences w (read net))) _ (λ w lt. let t = all w lt in lt-ltb _ _ (omega arith)),
+  )
+
+  pub none_read_twice-is : (tests.is_none_read_twice net ≡ true) ↔ ((wire : ℕ) → wire < number_of_wires net → occurrences wire (read net) ≤ 1)
+  none_read_twice-is = (
+    λ e wire lt. let t = ltb-true _ _ (all_below-at (λ w. nat_lt (occurrences w (read net)) 2) _ e wire lt) in omega arith,
+    λ all. all_below-from (λ w. nat_lt (occurrences w (read net)) 2) _ (λ w lt. let t = all w lt in lt-ltb _ _ (omega arith)),
+  )
+
+  pub input_ports-is : (are_ports_below net.inputs net.input_rails ≡ true) ↔ ((rail : Rail) → IsIn rail net.input_rails → rail.port < net.inputs)
+  input_ports-is = (
+    λ e rail h. ltb-true _ _ (list_all-at (λ r. nat_lt r.port net.inputs) _ e rail h),
+    λ all. list_all-from (λ r. nat_lt r.port net.inputs) _ (λ r h. lt-ltb _ _ (all r h)),
+  )
+
+  pub output_ports-is : (are_ports_below net.outputs net.output_rails ≡ true) ↔ ((rail : Rail) → IsIn rail net.output_rails → rail.port < net.outputs)
+  output_ports-is = (
+    λ e rail h. ltb-true _ _ (list_all-at (λ r. nat_lt r.port net.outputs) _ e rail h),
+    λ all. list_all-from (λ r. nat_lt r.port net.outputs) _ (λ r h. lt-ltb _ _ (all r h)),
+  )
+
+  pub none_twice-is : (is_no_rail_twice net ≡ true) ↔ ((first later : ℕ) (rail other : Rail) → first < later
+      → slice_get net.input_rails first ≡ Some rail → slice_get net.input_rails later ≡ Some other → rail.port ≡ other.port → rail.sign ≡ other.sign → ⊥)
+  none_twice-is = (
+    λ e first later rail other lt at_first at_later. other_rails-at rail other (all_pairs-at are_other_rails _ e first later rail other lt at_first at_later),
+    λ all. all_pairs-from are_other_rails _ (λ i j x y lt at_i at_j. other_rails-from x y (all i j x y lt at_i at_j)),
+  )
 
 pub sound_test : (net : NetlistLines) → is_sound net ≡ true → IsSound net
 sound_test net e =
@@ -263,16 +275,15 @@ sound_test net e =
     let p7 = and_parts _ _ p6.1 in
     let p8 = and_parts _ _ p7.1 in
     let p9 = and_parts _ _ p8.1 in
-    let told = tests_of_rules net in
     record {
-      all_driven = told.all_driven.0 p1.0;
-      none_driven_twice = told.none_driven_twice.0 p2.0;
-      all_read = told.all_read.0 p3.0;
-      none_read_twice = told.none_read_twice.0 p4.0;
-      input_ports = told.input_ports.0 p5.0;
-      output_ports = told.output_ports.0 p6.0;
-      none_twice = told.none_twice.0 p7.0;
-      grounded = told.grounded p8.0;
-      roles = told.roles p9.0;
-      preloads = told.preloads p9.1;
+      all_driven = (all_driven-is net).0 p1.0;
+      none_driven_twice = (none_driven_twice-is net).0 p2.0;
+      all_read = (all_read-is net).0 p3.0;
+      none_read_twice = (none_read_twice-is net).0 p4.0;
+      input_ports = (input_ports-is net).0 p5.0;
+      output_ports = (output_ports-is net).0 p6.0;
+      none_twice = (none_twice-is net).0 p7.0;
+      grounded = grounded-at net p8.0;
+      roles = roles-at net p9.0;
+      preloads = preloads-at net p9.1;
     }

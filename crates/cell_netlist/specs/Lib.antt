@@ -15,3 +15,4 @@ pub mod Asked
 pub mod Delivery
 pub mod Examples
 pub mod OneReader
+pub mod Refused

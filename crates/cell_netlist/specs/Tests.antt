@@ -169,7 +169,7 @@ is_sound net = is_all_driven net && (is_none_driven_twice net && (is_all_read ne
     && (are_ports_below net.inputs net.input_rails && (are_ports_below net.outputs net.output_rails
     && (is_no_rail_twice net && (is_all_grounded net && (is_all_fitting net && is_all_complement net))))))))
 
--- What the tests tell of a netlist: the counting ones exactly their rule, the others at least their rule.
+-- What the tests tell of a netlist: each exactly its rule, where the rule on roles takes that no wire is driven twice.
 pub record AreTestsOfRules (net : NetlistLines) : Type 0 where
   pub all_driven : (is_all_driven net ≡ true) ↔ ((wire : ℕ) → wire < number_of_wires net → 1 ≤ occurrences wire (driven net))
   pub none_driven_twice : (is_none_driven_twice net ≡ true) ↔ ((wire : ℕ) → wire < number_of_wires net → occurrences wire (driven net) ≤ 1)
@@ -179,9 +179,12 @@ pub record AreTestsOfRules (net : NetlistLines) : Type 0 where
   pub output_ports : (are_ports_below net.outputs net.output_rails ≡ true) ↔ ((rail : Rail) → IsIn rail net.output_rails → rail.port < net.outputs)
   pub none_twice : (is_no_rail_twice net ≡ true) ↔ ((first later : ℕ) (rail other : Rail) → first < later
       → slice_get net.input_rails first ≡ Some rail → slice_get net.input_rails later ≡ Some other → rail.port ≡ other.port → rail.sign ≡ other.sign → ⊥)
-  pub grounded : is_all_grounded net ≡ true → (cell : Cell) → IsIn cell net.cells → (IsDroc cell → ⊥) → (wire : ℕ) → IsIn wire (outs cell) → Grounded net wire
+  pub grounded : (is_all_grounded net ≡ true)
+      ↔ ((cell : Cell) → IsIn cell net.cells → (IsDroc cell → ⊥) → (wire : ℕ) → IsIn wire (outs cell) → Grounded net wire)
   pub roles : is_all_fitting net ≡ true → (cell : Cell) → IsIn cell net.cells → FitsRole net cell
-  pub preloads : is_all_complement net ≡ true → (link : ℕ) (front back : Bool) → IsFrontTo net link front → IsBackFrom net link back → back ≡ not front
+  pub fitting : is_none_driven_twice net ≡ true → ((cell : Cell) → IsIn cell net.cells → FitsRole net cell) → is_all_fitting net ≡ true
+  pub preloads : (is_all_complement net ≡ true)
+      ↔ ((link : ℕ) (front back : Bool) → IsFrontTo net link front → IsBackFrom net link back → back ≡ not front)
 
 -- the test of each rule is right on every netlist
 abbrev pub TestsOfRulesAreRight : Type 0
@@ -190,3 +193,7 @@ TestsOfRulesAreRight = (net : NetlistLines) → AreTestsOfRules net
 -- a netlist that passes all tests is sound
 abbrev pub SoundTestIsRight : Type 0
 SoundTestIsRight = (net : NetlistLines) → is_sound net ≡ true → IsSound net
+
+-- a sound netlist passes all tests
+abbrev pub SoundIsTested : Type 0
+SoundIsTested = (net : NetlistLines) → IsSound net → is_sound net ≡ true

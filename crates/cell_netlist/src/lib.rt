@@ -14,7 +14,7 @@ mod unsound;
 
 pub use examples::examples_hold;
 pub use kinds::{Ask, Gate, Held, Phase, Port, Role};
-pub use laws::{lean_tests, readers_of_wires, sound_tests, texts_of_netlists};
+pub use laws::{lean_tests, one_refusal, readers_of_wires, sound_tests, texts_of_netlists};
 pub use lines::{Cell, Driver, Rail, Reader};
 pub use netlists::Netlist;
 pub use tables::{arrive, feed_bit};

@@ -15,3 +15,4 @@ pub mod ExampleBits
 pub mod PlaceLemmas
 pub mod TextLemmas
 pub mod Shapes
+pub mod TableLemmas

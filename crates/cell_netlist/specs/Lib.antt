@@ -16,3 +16,4 @@ pub mod Delivery
 pub mod Examples
 pub mod OneReader
 pub mod Refused
+pub mod PlaceTables

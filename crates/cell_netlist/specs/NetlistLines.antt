@@ -128,3 +128,28 @@ pub record IsNetlist (net : NetlistLines) : Type 0 where
 pub record IsKept (net : NetlistLines) (wires : ℕ) : Type 0 where
   pub netlist : IsNetlist net
   pub wires_are : wires ≡ number_of_wires net
+
+-- one more than the greatest wire number that stands in a cell
+abbrev pub cell_bound : Cell → ℕ
+cell_bound cell = wire_bound (outs cell ++ reads cell)
+
+-- the cell with another feed, where it is a DROC
+abbrev pub with_feed : WireId → Cell → Cell
+with_feed wire (La a b out) = La a b out
+with_feed wire (Fa a b out) = Fa a b out
+with_feed wire (Split from left right) = Split from left right
+with_feed wire (Droc role preload feed q n) = Droc role preload wire q n
+
+-- the cells where the one of a number has another feed
+abbrev pub cells_with_feed : ℕ → WireId → List Cell → List Cell
+cells_with_feed c wire [] = []
+cells_with_feed zero wire (cell ∷ cells) = with_feed wire cell ∷ cells
+cells_with_feed (suc c) wire (cell ∷ cells) = cell ∷ cells_with_feed c wire cells
+
+-- there is a cell, a DROC whose feed is at most this number
+abbrev pub IsDrocUpTo : Option Cell → ℕ → Type 0
+IsDrocUpTo None wire = ⊥
+IsDrocUpTo (Some (La a b out)) wire = ⊥
+IsDrocUpTo (Some (Fa a b out)) wire = ⊥
+IsDrocUpTo (Some (Split from left right)) wire = ⊥
+IsDrocUpTo (Some (Droc role preload feed q n)) wire = feed.number ≤ wire

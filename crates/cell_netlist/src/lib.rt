@@ -9,6 +9,7 @@ mod kinds;
 mod laws;
 mod lines;
 mod netlists;
+mod sound_nets;
 mod tables;
 mod unsound;
 
@@ -17,5 +18,6 @@ pub use kinds::{Ask, Gate, Held, Phase, Port, Role};
 pub use laws::{lean_tests, one_refusal, readers_of_wires, sound_tests, texts_of_netlists};
 pub use lines::{Cell, Driver, Rail, Reader};
 pub use netlists::Netlist;
+pub use sound_nets::SoundNet;
 pub use tables::{arrive, feed_bit};
 pub use unsound::{RailLine, Unsound};

@@ -1,11 +1,11 @@
 //! A netlist: its ports, rails, cells and the names of its ports.
 
-ghost use Rattle.std.specs.Prelude.{◌≡◌, ◌<◌, ◌^◌, ◌++◌, ◌∷◌, [], length, OnOk, OnErr, IfOk, option_copied};
+ghost use Rattle.std.specs.Prelude.{◌≡◌, ◌<◌, ◌≤◌, ◌^◌, ◌++◌, ◌∷◌, [], length, OnOk, OnErr, IfOk, slice_get, option_copied};
 ghost use Rattle.cell_netlist.specs.Names.{HasRisingPorts, name_at};
-ghost use Rattle.cell_netlist.specs.NetlistLines.{empty_netlist, number_of_wires, IsNetlist};
+ghost use Rattle.cell_netlist.specs.NetlistLines.{empty_netlist, number_of_wires, IsNetlist, cell_bound, with_feed, cells_with_feed, IsDrocUpTo, wire_bound, used};
 
 use crate::lines::{Cell, Rail};
-use pulse_ids::{CellId, Ident, Name, NoMemory, RailId, Row};
+use pulse_ids::{CellId, Ident, Name, NoMemory, RailId, Row, WireId};
 use std::alloc::Global;
 use std::marker::Model;
 
@@ -138,6 +138,32 @@ impl Netlist {
         Ok(id)
     }
 
+    /// Adds a cell at the end and answers its number. The netlist has fewer than 2^27 cells, and each wire of the
+    /// cell is below 4,194,304. Where memory is refused the netlist is unchanged.
+    pub fn add_cell(&mut self, cell: Cell) -> Result<CellId, NoMemory>
+        requires room { length self.old.cells < 2 ^ 27 }
+        requires wires { cell_bound cell ≤ 2 ^ 22 }
+        ensures added { OnOk result (self.new ≡ record self.old { cells = self.old.cells ++ cell ∷ [] }) }
+        ensures number { IfOk result (λ id. id.number ≡ length self.old.cells) }
+        ensures unchanged { OnErr result (self.new ≡ self.old) }
+    {
+        let id = self.cells.push(cell)?;
+        self.wires = self.wires.max(bound_of(cell));
+        Ok(id)
+    }
+
+    /// Puts another feed on a DROC; all else stays. The cell is a DROC of the netlist whose present feed is not
+    /// above the new one, so that the number of wires does not fall. The new feed is below 4,194,304.
+    pub fn set_feed(&mut self, cell: CellId, feed: WireId)
+        requires droc { IsDrocUpTo (slice_get self.old.cells cell.number) feed.number }
+        requires wire { feed.number < 2 ^ 22 }
+        ensures { self.new ≡ record self.old { cells = cells_with_feed cell.number feed self.old.cells } }
+    {
+        let fed = fed_by(feed, *self.cells.get(cell));
+        self.cells.set(cell, fed);
+        self.wires = self.wires.max(feed.number() + 1);
+    }
+
     /// Adds an output rail at the end and answers its number. The netlist has fewer than 2^27 output rails, and the
     /// wire is below 4,194,304. Where memory is refused the netlist is unchanged.
     pub fn add_output(&mut self, rail: Rail) -> Result<RailId, NoMemory>
@@ -150,6 +176,57 @@ impl Netlist {
         let id = self.output_rails.push(rail)?;
         self.wires = self.wires.max(rail.wire.number() + 1);
         Ok(id)
+    }
+}
+
+// One more than the greatest wire number in a cell.
+fn bound_of(cell: Cell) -> u32
+    requires { cell_bound cell ≤ 2 ^ 22 }
+    ensures { result ≡ cell_bound cell }
+{
+    match cell {
+        Cell::La { a, b, out } | Cell::Fa { a, b, out } => {
+            (a.number().max(b.number())).max(out.number()) + 1
+        }
+        Cell::Split { from, left, right } => {
+            (from.number().max(left.number())).max(right.number()) + 1
+        }
+        Cell::Droc { feed, q, n, .. } => (feed.number() + 1)
+            .max(bound_of_output(q))
+            .max(bound_of_output(n)),
+    }
+}
+
+// One more than the wire number of an output, and 0 for an unused one.
+fn bound_of_output(output: Option<WireId>) -> u32
+    requires { wire_bound (used output) ≤ 2 ^ 22 }
+    ensures { result ≡ wire_bound (used output) }
+{
+    match output {
+        Some(wire) => wire.number() + 1,
+        None => 0,
+    }
+}
+
+// A cell with another feed, where it is a DROC.
+fn fed_by(wire: WireId, cell: Cell) -> Cell
+    ensures { result ≡ with_feed wire cell }
+{
+    match cell {
+        Cell::Droc {
+            role,
+            preload,
+            q,
+            n,
+            ..
+        } => Cell::Droc {
+            role,
+            preload,
+            feed: wire,
+            q,
+            n,
+        },
+        other => other,
     }
 }
 
@@ -167,7 +244,8 @@ fn name_of(names: &[(u32, Name)], port: u32) -> Option<&Name>
 #[cfg(test)]
 mod tests {
     use super::*;
-    use pulse_ids::{Sign, WireId};
+    use crate::kinds::Role;
+    use pulse_ids::Sign;
     use std::test::Fail;
 
     fn positive(wire: u32) -> Rail
@@ -201,6 +279,31 @@ mod tests {
         assert!(rt; net.output_name(1).is_none());
         assert!(rt; net.input_names().is_empty());
         assert!(rt; net.output_names().is_empty());
+        Ok(())
+    }
+
+    #[test]
+    fn cells_raise_the_number_of_wires(rt: HostRuntime) -> Result<(), Fail> {
+        let mut net = Netlist::new(rt.alloc(), 0, 0);
+        let split = Cell::Split {
+            from: WireId::new(2),
+            left: WireId::new(7),
+            right: WireId::new(3),
+        };
+        let constant = Cell::Droc {
+            role: Role::Const,
+            preload: true,
+            feed: WireId::new(2),
+            q: None,
+            n: Some(WireId::new(2)),
+        };
+        assert_eq!(rt; net.add_cell(constant)?.number(), 0);
+        assert_eq!(rt; net.wires(), 3);
+        assert_eq!(rt; net.add_cell(split)?.number(), 1);
+        assert_eq!(rt; net.wires(), 8);
+        net.set_feed(CellId::new(0), WireId::new(9));
+        assert_eq!(rt; *net.cells().get(CellId::new(1)), split);
+        assert_eq!(rt; net.wires(), 10);
         Ok(())
     }
 }

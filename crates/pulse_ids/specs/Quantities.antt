@@ -1,5 +1,5 @@
 -- The greatest number accepted of each quantity.
-use Rattle.std.specs.Prelude.{ℕ, ◌^◌, ◌-◌, ◌*◌}
+use Rattle.std.specs.Prelude.{ℕ, ◌^◌, ◌-◌}
 use Rattle.pulse_ids.specs.declared.quantities.Quantity.{Quantity}
 use Rattle.pulse_ids.specs.declared.quantities.Quantity.TheVariants.{SourceBytes, NetBytes, TailBytes, Inputs, Outputs, Latches, Nets, Size, NameBytes, Wires, Vectors}
 

@@ -1,6 +1,6 @@
 //! Tables that are read by one kind of number.
 
-ghost use Rattle.std.specs.Prelude.{◌≡◌, ◌↔◌, ◌<◌, ◌-◌, ◌^◌, ◌++◌, ◌∷◌, [], List, Some, IsTrue, length, OnOk, OnErr, IfOk, slice_get};
+ghost use Rattle.std.specs.Prelude.{◌≡◌, ◌↔◌, ◌<◌, ◌-◌, ◌^◌, ◌++◌, ◌∷◌, [], List, Some, IsTrue, length, replicate, IfOk, OnOk, OnErr, slice_get, slice_set, option_copied};
 ghost use Rattle.std.specs.Coded.{coded_list};
 
 use crate::ids::Ident;
@@ -36,6 +36,18 @@ impl<I: Ident, T> Row<I, T> {
         }
     }
 
+    /// A row of `n` equal items.
+    pub fn filled(alloc: Global, item: T, n: u32) -> Result<Row<I, T>, NoMemory>
+    where
+        T: Copy,
+        ensures { IfOk result (λ row. row ≡ replicate n item) }
+    {
+        Ok(Row {
+            items: repeated(alloc, item, n)?,
+            kind: PhantomData,
+        })
+    }
+
     /// How many items the row has, always below 2^32.
     pub fn len(&self) -> u32
         ensures { result ≡ length self.now }
@@ -58,11 +70,28 @@ impl<I: Ident, T> Row<I, T> {
         &self.items[id.number() as usize]
     }
 
+    /// The item with this number. None exactly where the number is not below the length.
+    pub fn try_get(&self, n: u32) -> Option<&T>
+        ensures { option_copied result ≡ slice_get self.now n }
+    {
+        self.items.get(n as usize)
+    }
+
     /// All items, in the order of their numbers.
     pub fn items(&self) -> &[T]
         ensures { result.now ≡ self.now }
     {
         self.items.as_slice()
+    }
+
+    /// Puts an item in the place of the one with this number, which is below the length. All other items stay.
+    pub fn set(&mut self, id: I, item: T)
+    where
+        T: Drop,
+        requires { I.number_of id < length self.old }
+        ensures { self.new ≡ slice_set self.old (I.number_of id) item }
+    {
+        self.items[id.number() as usize] = item;
     }
 
     /// Adds an item at the end and answers its number, the old length. The row has fewer than
@@ -79,6 +108,18 @@ impl<I: Ident, T> Row<I, T> {
         self.items.push(item)?;
         Ok(I::new(number))
     }
+}
+
+// A list of `n` equal items.
+#[tactic(auto, using(crate::proofs::Copies::replicate_last))]
+fn repeated<T: Copy>(alloc: Global, item: T, n: u32) -> Result<Vec<T>, NoMemory>
+    ensures { IfOk result (λ list. list.items ≡ replicate n item) }
+{
+    let mut list = Vec::with_capacity(alloc, n as usize)?;
+    'fill: for _made in 0..n {
+        list.push(item)?;
+    }
+    Ok(list)
 }
 
 #[cfg(test)]
@@ -104,6 +145,11 @@ mod tests {
         assert_eq!(rt; first_two::<NetId>(rt.alloc())?.len(), 2);
         assert_eq!(rt; first_two::<NodeId>(rt.alloc())?.len(), 2);
         assert!(rt; !first_two::<RailId>(rt.alloc())?.is_empty());
+        let mut row = Row::<WireId, u8>::filled(rt.alloc(), 5, 3)?;
+        row.set(WireId::new(1), 6);
+        assert_eq!(rt; row.items(), [5, 6, 5].as_slice());
+        assert_eq!(rt; row.try_get(1), Some(&6));
+        assert_eq!(rt; row.try_get(3), None);
         let name = Name::new(rt.alloc(), b"n<7>")?;
         assert_eq!(rt; name.bytes(), b"n<7>".as_slice());
         assert!(rt; name == Name::new(rt.alloc(), b"n<7>")?);

@@ -16,7 +16,7 @@ use Rattle.pulse_world.proofs.Sums.{one_if-other, one_if, map-on, IsIn-from_map}
 use Rattle.pulse_world.proofs.Moments.{Moves, moves, no_upset, counts-are, rails-at, vector-is, read-low, output-read}
 use Rattle.pulse_world.proofs.Drivers.{IsPlain, IsFrontOn, all-grounded, output-plain}
 use Rattle.pulse_world.proofs.Phases.{keeps}
-use Rattle.pulse_world.proofs.Claims.{was_taken, now_taken, Holds, live, taken-few, taken-once, low, goes-on}
+use Rattle.pulse_world.proofs.Claims.{was_taken, now_taken, Holds, live, taken-few, taken-once, waits-once, low, goes-on}
 use Rattle.pulse_world.proofs.Openings.{opening_put, cycle_put, IsExcited, excite-room, excite-opens, excite-settles, relax-opens}
 use Rattle.pulse_world.proofs.Settling.{relax-room, link-taken}
 use Rattle.pulse_world.proofs.Values.{excited-value, whole-value, link-relaxed}
@@ -95,6 +95,14 @@ module _ (net : NetlistLines) (sound : IsSound net) where
       taken-once net sound (opening_put net Excite vector (resting latches)) (λ w. 0) (excite-room net sound vector (resting latches)) state taken h wire
   phase-once latches vector Relax state taken h wire =
       taken-once net sound (cycle_put net latches vector h.excited) (λ w. occurrences w h.excited) (relax-room net sound latches vector h.excited h.is_excited) state taken h.holds wire
+
+  -- no wire has two pulses pending
+  pub phase-waits : (latches : LatchState) (vector : List Bool) (phase : Phase) (state : State) (taken : List ℕ) → PhaseHolds net latches vector phase state taken
+      → (wire : ℕ) → state.pending wire ≤ 1
+  phase-waits latches vector Excite state taken h wire =
+      waits-once net sound (opening_put net Excite vector (resting latches)) (λ w. 0) (excite-room net sound vector (resting latches)) state taken h wire
+  phase-waits latches vector Relax state taken h wire =
+      waits-once net sound (cycle_put net latches vector h.excited) (λ w. occurrences w h.excited) (relax-room net sound latches vector h.excited h.is_excited) state taken h.holds wire
 
   pub phase-low : (latches : LatchState) (vector : List Bool) (phase : Phase) (state : State) (taken : List ℕ) → PhaseHolds net latches vector phase state taken
       → (wire : ℕ) → number_of_wires net ≤ wire → (state.pending wire ≡ 0) × (occurrences wire taken ≡ 0)

@@ -88,6 +88,12 @@ module _ (net : NetlistLines) (sound : IsSound net) (put earlier : ℕ → ℕ) 
       let w = holds.waits wire in
       let r = room.any (was_taken earlier taken) wire in let d = driven-once net sound wire in omega arith
 
+  -- no wire has two pulses pending
+  pub waits-once : (wire : ℕ) → state.pending wire ≤ 1
+  waits-once wire =
+      let w = holds.waits wire in
+      let r = room.any (was_taken earlier taken) wire in let d = driven-once net sound wire in omega arith
+
   pub taken-few : length taken ≤ number_of_wires net
   taken-few = few taken (number_of_wires net) taken-once (λ wire le.
       let w = holds.waits wire in

@@ -15,3 +15,9 @@ pub mod Due
 pub mod Agreement
 pub mod SmallNetlists
 pub mod Unsound
+pub mod Rows
+pub mod Reactions
+pub mod Reaching
+pub mod Opening
+pub mod Delivering
+pub mod AtReader

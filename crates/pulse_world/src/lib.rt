@@ -6,8 +6,13 @@
 
 mod examples;
 mod orders;
+mod pending;
+mod pulsing;
+mod reacting;
+mod worlds;
 
 pub use examples::examples_deliver;
 pub use orders::{
     equation_runs, every_order, every_order_without_cells, pulses_per_cycle, rails_to_bits,
 };
+pub use worlds::World;

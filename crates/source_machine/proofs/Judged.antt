@@ -176,7 +176,7 @@ lowest P decided (suc bound) = go (lowest P decided bound) (decided bound)
     go (inr below) (inr out) = inr (upto below out)
 
 -- what is used is numbered or net 0
-used_in_range : (machine : PlainMachine) → Fits machine → (net : ℕ) → IsIn net (used_nets machine) → net ≤ machine.nets
+pub used_in_range : (machine : PlainMachine) → Fits machine → (net : ℕ) → IsIn net (used_nets machine) → net ≤ machine.nets
 used_in_range machine fits net h = ends (IsIn-append net (flat_map row_nets machine.equations) _ h)
   where
     of_rows : IsIn net (flat_map row_nets machine.equations) → net ≤ machine.nets
@@ -214,11 +214,11 @@ module _ (machine : PlainMachine) (fits : Fits machine) where
       go (inl i) = let r = driven_numbered machine fits net i in omega arith
       go (inr out) = absurd (omega (arith, times_in-absent net (driven_nets machine) out))
 
-  equation_in_range : (net : ℕ) → IsIn net (map (λ equation. equation.net) machine.equations) → net < machine.nets + 1
+  pub equation_in_range : (net : ℕ) → IsIn net (map (λ equation. equation.net) machine.equations) → net < machine.nets + 1
   equation_in_range net i =
       let r = driven_numbered machine fits net (IsIn-right net machine.inputs _ (IsIn-right net (map (λ latch. latch.out) machine.latches) _ i)) in omega arith
 
-  founded_if : IsNever (IsDrivenTwice machine) → IsNever (IsUndriven machine) → IsNever (IsUngrounded machine) → IsWellFounded machine
+  pub founded_if : IsNever (IsDrivenTwice machine) → IsNever (IsUndriven machine) → IsNever (IsUngrounded machine) → IsWellFounded machine
   founded_if once driven grounded = record {
     driven_once = once;
     all_driven = λ net ne used. elim (is_in net (driven_nets machine)) [ inl i ↦ i | inr out ↦ absurd (driven net (ne, used, out)) ];

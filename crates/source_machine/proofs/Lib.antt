@@ -8,3 +8,11 @@ pub mod Exists
 pub mod Shown
 pub mod Refusals
 pub mod Judged
+pub mod Listed
+pub mod Searches
+pub mod Visits
+pub mod Links
+pub mod Stepping
+pub mod Spreading
+pub mod Closures
+pub mod Accepting

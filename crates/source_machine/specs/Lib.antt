@@ -3,5 +3,10 @@ pub mod Fitting
 pub mod Members
 pub mod Runs
 pub mod Grounding
+pub mod Orders
+pub mod Searching
+pub mod Stages
+pub mod Steps
+pub mod Founding
 pub mod Laws
 pub mod Examples

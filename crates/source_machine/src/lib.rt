@@ -4,12 +4,22 @@
 #![tactic(auto)]
 
 mod covers;
+mod faults;
 mod fitting;
+mod founding;
 mod laws;
+mod listing;
 mod machines;
+mod ordering;
 mod places;
+mod readers;
+#[cfg(test)]
+mod tests;
+mod verdicts;
 
 pub use covers::Cover;
+pub use founding::{Machine, ground};
 pub use laws::{examples, one_run, one_verdict};
 pub use machines::{Equation, Latch, RawMachine};
 pub use places::Place;
+pub use verdicts::Grounding;

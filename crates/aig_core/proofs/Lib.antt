@@ -1,0 +1,9 @@
+pub mod FoldLemmas
+pub mod GrowthLemmas
+pub mod LawLemmas
+pub mod ListLemmas
+pub mod NodeLemmas
+pub mod PlaceLemmas
+pub mod Shown
+pub mod TidyLemmas
+pub mod ValueLemmas

@@ -1,0 +1,8 @@
+pub mod Examples
+pub mod Folds
+pub mod Graphs
+pub mod Growth
+pub mod Laws
+pub mod Pairs
+pub mod Tidy
+pub mod Values

@@ -1,0 +1,16 @@
+//! And-inverter graphs in which no conjunction stands twice and none can be folded away.
+//!
+//! A graph grows by [`Graph::and`] alone, which looks the pair of its literals up in a hashed set.
+#![tactic(auto)]
+
+mod folds;
+mod graphs;
+mod laws;
+mod nodes;
+mod pairs;
+#[cfg(test)]
+mod tests;
+
+pub use graphs::Graph;
+pub use laws::{examples, nodes_have_values};
+pub use nodes::Node;

@@ -1,0 +1,91 @@
+//! The row of the pending pulses.
+
+ghost use Rattle.std.specs.Prelude.{◌≡◌, ◌<◌, ◌≤◌, ◌^◌, ◌++◌, ◌∷◌, [], None, Some, ℕ, length, IfOk, IfSome, slice_get};
+ghost use Rattle.std.specs.List.{swap_remove};
+ghost use Rattle.cell_netlist.specs.Lists.{occurrences};
+ghost use Rattle.pulse_world.specs.PendingRows.{row_of};
+
+use pulse_ids::{Ident, NoMemory, Row, WireId};
+use std::alloc::Global;
+use std::marker::Model;
+
+/// Wires in a row, each at most once, all below a bound. The place of a wire is found in constant time, and after
+/// the row is made it takes no memory.
+#[derive(Debug, Drop)]
+pub(crate) struct PendingRow {
+    wires: Vec<WireId>,
+    // Where a wire of the row stands. Of other wires it says nothing.
+    places: Row<WireId, u32>,
+}
+
+impl Model for PendingRow {
+    ghost use Rattle.std.specs.Prelude.{length};
+    ghost use Rattle.std.specs.Vec.{vec_capacity};
+    ghost use Rattle.pulse_world.specs.PendingRows.{RowLines, row_of, IsRowOf};
+
+    ghost Value = { RowLines };
+
+    ghost view = { λ row. row_of row.wires.items (length row.places) };
+
+    ghost invariant = { λ row. IsRowOf (row_of row.wires.items (length row.places)) row.places (vec_capacity row.wires) };
+}
+
+impl PendingRow {
+    /// An empty row for the wires below the bound.
+    pub(crate) fn new(alloc: Global, bound: u32) -> Result<PendingRow, NoMemory>
+        ensures { IfOk result (λ row. row ≡ row_of [] bound) }
+    {
+        let places = Row::filled(alloc, 0, bound)?;
+        let wires = Vec::with_capacity(alloc, bound as usize)?;
+        Ok(PendingRow { wires, places })
+    }
+
+    /// How many wires stand in the row, always at most the bound.
+    pub(crate) fn len(&self) -> u32
+        ensures count { result ≡ length self.now.wires }
+        ensures most { length self.now.wires ≤ self.now.bound }
+    {
+        self.wires.len() as u32
+    }
+
+    /// The wire at a place, which is below the length.
+    pub(crate) fn at(&self, place: u32) -> WireId
+        requires { place < length self.now.wires }
+        ensures { slice_get self.now.wires place ≡ Some result.number }
+    {
+        self.wires[place as usize]
+    }
+
+    /// The place of a wire, which may be any. None exactly where it does not stand in the row.
+    pub(crate) fn place_of(&self, wire: WireId) -> Option<u32>
+        ensures found { IfSome result (λ place. slice_get self.now.wires place ≡ Some wire.number) }
+        ensures none { result ≡ None → occurrences wire.number self.now.wires ≡ 0 }
+    {
+        let place = *self.places.try_get(wire.number())?;
+        match self.wires.get(place as usize) {
+            Some(found) if found.number() == wire.number() => Some(place),
+            _ => None,
+        }
+    }
+
+    /// Takes the wire at a place out; the last one of the row moves into that place.
+    pub(crate) fn take_at(&mut self, place: u32) -> WireId
+        requires { place < length self.old.wires }
+        ensures wire { slice_get self.old.wires place ≡ Some result.number }
+        ensures rest { self.new ≡ record self.old { wires = swap_remove self.old.wires place 0 } }
+    {
+        let last = self.wires[self.wires.len() - 1];
+        self.places.set(last, place);
+        self.wires.swap_remove(place as usize)
+    }
+
+    /// Puts a wire at the end. It is below the bound and does not stand in the row.
+    pub(crate) fn append(&mut self, wire: WireId)
+        requires below { wire.number < self.old.bound }
+        requires apart { occurrences wire.number self.old.wires ≡ 0 }
+        ensures { self.new ≡ record self.old { wires = self.old.wires ++ wire.number ∷ [] } }
+    {
+        self.places.set(wire, self.wires.len() as u32);
+        self.wires.push_reserved(wire);
+    }
+}

@@ -1,0 +1,19 @@
+use Rattle.std.proofs.Common.{refl, subst, sym}
+use Rattle.source_machine.specs.Machines.{machine_of}
+use Rattle.source_machine.specs.Searching.{IsFirst}
+use Rattle.source_machine.specs.Grounding.{IsLowest, IsDrivenTwice, IsUndriven, IsUngrounded}
+use Rattle.source_machine.proofs.Judged.{founded_if}
+use Rattle.source_machine.proofs.Accepting.{never_when}
+use Rattle.source_machine.proofs.founding.ground.Goals as goal
+
+pub returns-in-Some-2-clause-refused : goal.returns-in-Some-2-clause-refused
+returns-in-Some-2-clause-refused c = (
+  never_when (IsDrivenTwice (machine_of c.args.raw)) c.in_ok-net.field-0 c.in_default.not-Some c.in_ok-net.ensures,
+  subst (λ n. IsLowest (IsUndriven (machine_of c.args.raw)) n) (sym c.new-in-Some-2.ensures) (subst (λ found. IsFirst (IsUndriven (machine_of c.args.raw)) found) c.in-Some-2.is c.in_ok-net-2.ensures),
+)
+
+pub invariant_of-result : goal.invariant_of-result
+invariant_of-result c = (c.requires, founded_if (machine_of c.args.raw) c.requires (never_when (IsDrivenTwice (machine_of c.args.raw)) c.in_ok-net.field-0 c.in_default.not-Some c.in_ok-net.ensures) (never_when (IsUndriven (machine_of c.args.raw)) c.in_ok-net-2.field-0 c.in_default-2.not-Some c.in_ok-net-2.ensures) (never_when (IsUngrounded (machine_of c.args.raw)) c.in_ok-net-3.field-0 c.in_default-3.not-Some c.in_ok-net-3.ensures))
+
+pub returns-clause-accepted : goal.returns-clause-accepted
+returns-clause-accepted c = (refl, founded_if (machine_of c.args.raw) c.requires (never_when (IsDrivenTwice (machine_of c.args.raw)) c.in_ok-net.field-0 c.in_default.not-Some c.in_ok-net.ensures) (never_when (IsUndriven (machine_of c.args.raw)) c.in_ok-net-2.field-0 c.in_default-2.not-Some c.in_ok-net-2.ensures) (never_when (IsUngrounded (machine_of c.args.raw)) c.in_ok-net-3.field-0 c.in_default-3.not-Some c.in_ok-net-3.ensures))

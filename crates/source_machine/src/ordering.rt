@@ -1,0 +1,185 @@
+//! The order in which the equations of a machine get values.
+
+ghost use Rattle.std.specs.Prelude.{◌≡◌, ◌≤◌, ◌<◌, ◌+◌, ◌++◌, ◌∷◌, [], ℕ, List, Bool, false, true, map, length, replicate, get_or, slice_index, IfOk, OnOk};
+ghost use Rattle.source_machine.specs.Members.{IsIn};
+ghost use Rattle.source_machine.specs.Stages.{Stage, IsReached, Visit};
+ghost use Rattle.source_machine.specs.Steps.{TablesFit, StageFits, Settles, Steps, IsReader, IsClosure};
+
+use crate::faults::{clear_bits, set_bits};
+use crate::readers::Tables;
+use pulse_ids::NoMemory;
+use std::alloc::Global;
+use std::marker::Model;
+
+/// What is known after some equations have got values: the bits of the nets that have one, how far
+/// each equation's nets are known, and the equations in order.
+#[derive(Drop)]
+pub(crate) struct Progress {
+    known: Vec<bool>,
+    places: Vec<usize>,
+    order: Vec<usize>,
+}
+
+impl Model for Progress {
+    ghost Value = { Stage };
+
+    ghost view = { λ progress. record { known = progress.known.items; places = progress.places.items; order = progress.order.items } };
+}
+
+/// The first place at or after this one whose net isn't known, or the number of nets.
+fn reach(nets: &[u32], place: usize, known: &[bool]) -> usize
+    requires within { place ≤ length nets.now }
+    requires fit { (net : ℕ) → IsIn net nets.now → net < length known.now }
+    ensures { IsReached nets.now known.now place result }
+{
+    let mut at = place;
+    while at < nets.len() && known[nets[at] as usize] {
+        at += 1;
+    }
+    at
+}
+
+impl Progress {
+    /// Goes on with one equation, which drives this net and reads these.
+    fn visit(&mut self, nets: &[u32], target: u32, equation: usize) -> Result<(), NoMemory>
+        requires place { equation < length self.old.places }
+        requires within { slice_index self.old.places equation ≤ length nets.now }
+        requires target { target < length self.old.known }
+        requires fit { (net : ℕ) → IsIn net nets.now → net < length self.old.known }
+        ensures { OnOk result (Visit nets.now target equation self.old self.new) }
+    {
+        if self.known[target as usize] {
+            return Ok(());
+        }
+        let place = reach(nets, self.places[equation], &self.known);
+        self.places[equation] = place;
+        if place == nets.len() {
+            self.known[target as usize] = true;
+            self.order.push(equation)?;
+        }
+        Ok(())
+    }
+
+    fn visit_equation(&mut self, tables: &Tables, equation: usize) -> Result<(), NoMemory>
+        requires tables { TablesFit tables.now }
+        requires stage { StageFits tables.now self.old }
+        requires equation { equation < length tables.now.reads.items }
+        ensures steps { OnOk result (Steps tables.now self.old self.new) }
+        ensures settled { OnOk result ((done : ℕ) → Settles tables.now self.new done equation) }
+    {
+        self.visit(
+            tables.reads[equation].as_slice(),
+            tables.targets[equation],
+            equation,
+        )?;
+        Ok(())
+    }
+
+    /// Goes on with each equation that reads this net.
+    fn visit_readers(&mut self, tables: &Tables, net: u32) -> Result<(), NoMemory>
+        requires tables { TablesFit tables.now }
+        requires stage { StageFits tables.now self.old }
+        requires net { net < tables.now.count }
+        ensures steps { OnOk result (Steps tables.now self.old self.new) }
+        ensures settled { OnOk result ((done other : ℕ) → done ≤ length self.old.order
+            → IsReader tables.now (slice_index tables.now.readers.heads net) other
+            → Settles tables.now self.new done other) }
+    {
+        let mut head = tables.readers.head(net);
+        while head != 0 {
+            self.visit_equation(tables, tables.readers.owner(head - 1))?;
+            head = tables.readers.next(head - 1);
+        }
+        Ok(())
+    }
+
+    fn len(&self) -> usize
+        ensures { result ≡ length self.now.order }
+    {
+        self.order.len()
+    }
+
+    fn at(&self, place: usize) -> usize
+        requires { place < length self.now.order }
+        ensures { result ≡ slice_index self.now.order place }
+    {
+        self.order[place]
+    }
+
+    /// Only the first nets are known.
+    fn begin(alloc: Global, tables: &Tables) -> Result<Progress, NoMemory>
+        requires { (net : ℕ) → IsIn net tables.now.starts.items → net < tables.now.count }
+        ensures { IfOk result (λ progress. StageFits tables.now progress) }
+    {
+        let mut known = clear_bits(alloc, tables.count)?;
+        set_bits(&mut known, tables.starts.as_slice(), true);
+        let places = zeros(alloc, tables.len())?;
+        let order = Vec::with_capacity(alloc, tables.len())?;
+        Ok(Progress {
+            known,
+            places,
+            order,
+        })
+    }
+
+    /// Goes on with each equation once.
+    fn visit_all(&mut self, tables: &Tables) -> Result<(), NoMemory>
+        requires tables { TablesFit tables.now }
+        requires stage { StageFits tables.now self.old }
+        ensures stage { OnOk result (StageFits tables.now self.new) }
+        ensures settled { OnOk result ((other : ℕ) → other < length tables.now.reads.items → Settles tables.now self.new 0 other) }
+    {
+        for equation in 0..tables.reads.len() {
+            self.visit_equation(tables, equation)?;
+        }
+        Ok(())
+    }
+
+    /// Goes on with the readers of each net that gets known, until none is left.
+    fn spread(&mut self, tables: &Tables) -> Result<(), NoMemory>
+        requires tables { TablesFit tables.now }
+        requires stage { StageFits tables.now self.old }
+        requires settled { (other : ℕ) → other < length tables.now.reads.items → Settles tables.now self.old 0 other }
+        ensures stage { OnOk result (StageFits tables.now self.new) }
+        ensures closed { OnOk result ((other : ℕ) → other < length tables.now.reads.items → Settles tables.now self.new (length self.new.order) other) }
+    {
+        let mut done = 0;
+        while done < self.len() {
+            self.visit_readers(tables, tables.targets[self.at(done)])?;
+            done += 1;
+        }
+        Ok(())
+    }
+
+    /// The nets of the ordered equations.
+    fn valued_nets(&self, alloc: Global, tables: &Tables) -> Result<Vec<u32>, NoMemory>
+        requires { (equation : ℕ) → IsIn equation self.now.order → equation < length tables.now.targets.items }
+        ensures { IfOk result (λ nets. nets.items ≡ map (slice_index tables.now.targets.items) self.now.order) }
+    {
+        let mut nets = Vec::with_capacity(alloc, self.order.len())?;
+        for place in 0..self.len() {
+            nets.push(tables.targets[self.at(place)])?;
+        }
+        Ok(nets)
+    }
+}
+
+/// So many zeros.
+fn zeros(alloc: Global, count: usize) -> Result<Vec<usize>, NoMemory>
+    ensures { IfOk result (λ numbers. numbers.items ≡ replicate count 0) }
+{
+    Ok(vec![in alloc; 0usize; count]?)
+}
+
+/// The nets of the equations that can be ordered so that each reads nets that are known before.
+pub(crate) fn grounded_nets(alloc: Global, tables: &Tables) -> Result<Vec<u32>, NoMemory>
+    requires tables { TablesFit tables.now }
+    requires starts { (net : ℕ) → IsIn net tables.now.starts.items → net < tables.now.count }
+    ensures { IfOk result (λ nets. IsClosure tables.now nets.items) }
+{
+    let mut progress = Progress::begin(alloc, tables)?;
+    progress.visit_all(tables)?;
+    progress.spread(tables)?;
+    let nets = progress.valued_nets(alloc, tables)?;
+    Ok(nets)
+}

@@ -71,7 +71,7 @@ impl Graph {
         ensures node { slice_get (nodes_of self.now) result.id.number ≡ Some (Node.Input k) }
         ensures value { (state vector : List Bool) → value_of self.now state vector result ≡ bit_in vector k }
     {
-        let _ = &self.inputs;
+        let _ = &self.inputs; // the proof learns the invariant where a field is named
         NodeLit::new(NodeId::new(1 + k), false)
     }
 
@@ -119,7 +119,7 @@ impl Graph {
         ensures err { OnErr result (self.new ≡ self.old) }
         ensures kept { IsKept self.new }
     {
-        let _ = &self.inputs;
+        let _ = &self.inputs; // the proof learns the invariant where a field is named
         match folded(a, b) {
             Some(literal) => Ok(literal),
             None => self.place(ordered(a, b)),

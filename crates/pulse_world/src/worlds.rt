@@ -6,7 +6,7 @@ ghost use Rattle.cell_netlist.specs.declared.kinds.Phase.TheVariants.{Excite, Re
 ghost use Rattle.cell_netlist.specs.Lists.{IsIn, occurrences};
 ghost use Rattle.cell_netlist.specs.World.{Content, preloaded, start, IsAtRest};
 ghost use Rattle.pulse_world.specs.Reacting.{content_of, bit_of};
-ghost use Rattle.pulse_world.specs.Worlds.{state_of, phase_of, opened_world, DeliversAt};
+ghost use Rattle.pulse_world.specs.Worlds.{state_of, phase_of, opened_world, DeliversAt, IsWorld};
 
 use crate::pending::PendingRow;
 use crate::pulsing::{append_emitted, open_phase};
@@ -64,9 +64,10 @@ impl<'a> World<'a> {
         })
     }
 
-    /// The phase that was opened last, and relax before the first opening.
+    /// The phase that was opened last, and relax before the first opening. The world is one that a run reaches.
     pub fn phase(&self) -> Phase
-        ensures { result ≡ phase_of self.now.opened }
+        ensures opened { result ≡ phase_of self.now.opened }
+        ensures world { IsWorld self.now }
     {
         self.opened.unwrap_or(Phase::Relax)
     }

@@ -28,8 +28,6 @@ impl Model for Machine {
 
     ghost Value = { RawMachine };
 
-    ghost use Rattle.source_machine.specs.declared.machines.RawMachine.{RawMachine};
-
     ghost view = { λ machine. machine.raw };
 
     ghost use Rattle.source_machine.specs.Machines.{machine_of};

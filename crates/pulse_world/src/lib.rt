@@ -9,6 +9,8 @@ mod orders;
 mod pending;
 mod pulsing;
 mod reacting;
+#[cfg(test)]
+mod tests;
 mod worlds;
 
 pub use examples::examples_deliver;

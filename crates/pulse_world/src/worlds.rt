@@ -1,4 +1,4 @@
-//! The pulse engine.
+//! The pulse engine. Its clauses rest on the law `readers_of_wires`, whose calls do nothing.
 
 ghost use Rattle.std.specs.Prelude.{◌≡◌, ◌<◌, ◌↔◌, [], ℕ, option_map, if◌then◌else◌, true, false, map, length, IfOk, None, Some, slice_get};
 ghost use Rattle.cell_netlist.specs.declared.kinds.Held.TheVariants.{Rest};
@@ -47,6 +47,7 @@ impl<'a> World<'a> {
     pub fn new(alloc: Global, net: &'a SoundNet) -> Result<World<'a>, NoMemory>
         ensures net { IfOk result (λ world. world.net ≡ net.now) }
         ensures start { IfOk result (λ world. state_of world ≡ start net.now) }
+        ensures settled { IfOk result (λ world. world.row ≡ []) }
         ensures opened { IfOk result (λ world. world.opened ≡ None) }
     {
         let lines = net.net();
@@ -159,6 +160,8 @@ impl<'a> World<'a> {
         ensures delivered { result ≡ true → (place : ℕ) × DeliversAt self.old self.new place wire.number }
         ensures unchanged { result ≡ false → self.new ≡ self.old }
         ensures nothing { result ≡ false → occurrences wire.number self.old.row ≡ 0 }
+        ensures net { self.new.net ≡ self.old.net }
+        ensures opened { self.new.opened ≡ self.old.opened }
     {
         match self.pending.place_of(wire) {
             Some(place) => {

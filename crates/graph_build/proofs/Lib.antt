@@ -1,0 +1,9 @@
+pub mod EquationSteps
+pub mod EquationValues
+pub mod Growth
+pub mod LiteralValues
+pub mod Members
+pub mod NetLiterals
+pub mod Results
+pub mod RowSteps
+pub mod SizeLemmas

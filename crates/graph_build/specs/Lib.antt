@@ -1,1 +1,5 @@
 pub mod Built
+pub mod Equations
+pub mod Literals
+pub mod Orders
+pub mod Sizes

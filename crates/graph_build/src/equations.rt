@@ -1,0 +1,84 @@
+//! The conjunctions of one equation.
+
+ghost use Rattle.std.specs.Prelude.{◌≡◌, ◌<◌, ◌≤◌, ◌+◌, ◌^◌, ◌&&◌, ◌||◌, Bool, List, length, map, All, IfOk};
+ghost use Rattle.std.specs.List.{list_any};
+ghost use Rattle.aig_core.specs.Graphs.{count_of};
+ghost use Rattle.aig_core.specs.Values.{value_of};
+ghost use Rattle.source_machine.specs.Machines.{literal_of, equation_of};
+ghost use Rattle.source_machine.specs.Fitting.{LiteralFits, size_of_rows};
+ghost use Rattle.source_machine.specs.Runs.{row_value, equation_value};
+ghost use Rattle.graph_build.specs.Literals.{net_value, AllWithin};
+ghost use Rattle.graph_build.specs.Equations.{IsLiteralOf};
+
+use crate::literals::{node_literal, one, zero};
+use aig_core::Graph;
+use pulse_ids::{Lit, NetId, NoMemory, NodeLit, Row};
+use source_machine::{Cover, Equation};
+
+/// The conjunction of a row's literals, folded from the left.
+pub(crate) fn row_literal(
+    graph: &mut Graph,
+    literals: &Row<NetId, NodeLit>,
+    row: &[Lit],
+) -> Result<NodeLit, NoMemory>
+    requires within { AllWithin graph.old literals.now }
+    requires fit { All (λ literal. literal.id.number < length literals.now) row.now }
+    requires room { length graph.old.pairs + length row.now ≤ 2 ^ 18 }
+    ensures { IfOk result (λ literal. IsLiteralOf (length row.now) graph.old graph.new (λ state vector. row_value (net_value graph.old literals.now state vector) (map literal_of row.now)) literal) }
+{
+    let mut conjunction = one(graph);
+    for literal in row {
+        conjunction = graph.and(conjunction, node_literal(literals, *literal))?;
+    }
+    Ok(conjunction)
+}
+
+/// The disjunction of two literals: the complement of the conjunction of their complements.
+fn either(graph: &mut Graph, a: NodeLit, b: NodeLit) -> Result<NodeLit, NoMemory>
+    requires a { a.id.number < count_of graph.old }
+    requires b { b.id.number < count_of graph.old }
+    requires room { length graph.old.pairs < 2 ^ 18 }
+    ensures { IfOk result (λ literal. IsLiteralOf 1 graph.old graph.new (λ state vector. value_of graph.old state vector a || value_of graph.old state vector b) literal) }
+{
+    let neither = graph.and(a.flip(), b.flip())?;
+    Ok(neither.flip())
+}
+
+/// The disjunction of the rows, joined from the left.
+fn rows_literal(
+    graph: &mut Graph,
+    literals: &Row<NetId, NodeLit>,
+    rows: &[Cover],
+) -> Result<NodeLit, NoMemory>
+    requires within { AllWithin graph.old literals.now }
+    requires fit { All (λ row. All (λ literal. literal.id.number < length literals.now) row) rows.now }
+    requires room { length graph.old.pairs + size_of_rows (map (map literal_of) rows.now) ≤ 2 ^ 18 }
+    ensures { IfOk result (λ literal. IsLiteralOf (size_of_rows (map (map literal_of) rows.now)) graph.old graph.new (λ state vector. list_any (row_value (net_value graph.old literals.now state vector)) (map (map literal_of) rows.now)) literal) }
+{
+    let mut disjunction = zero(graph);
+    for row in rows {
+        let conjunction = row_literal(graph, literals, row.literals())?;
+        disjunction = either(graph, disjunction, conjunction)?;
+    }
+    Ok(disjunction)
+}
+
+/// The literal of an equation's value: the disjunction of its rows, or the complement where `on` is
+/// false.
+pub(crate) fn equation_literal(
+    graph: &mut Graph,
+    literals: &Row<NetId, NodeLit>,
+    equation: &Equation,
+) -> Result<NodeLit, NoMemory>
+    requires within { AllWithin graph.old literals.now }
+    requires fit { All (λ row. All (λ literal. literal.id.number < length literals.now) row) equation.now.rows.items }
+    requires room { length graph.old.pairs + size_of_rows (equation_of equation.now).rows ≤ 2 ^ 18 }
+    ensures { IfOk result (λ literal. IsLiteralOf (size_of_rows (equation_of equation.now).rows) graph.old graph.new (λ state vector. equation_value (net_value graph.old literals.now state vector) (equation_of equation.now)) literal) }
+{
+    let disjunction = rows_literal(graph, literals, equation.rows.as_slice())?;
+    if equation.on {
+        Ok(disjunction)
+    } else {
+        Ok(disjunction.flip())
+    }
+}

@@ -9,15 +9,16 @@ use Rattle.source_machine.specs.Machines.{PlainMachine}
 use Rattle.source_machine.specs.Members.{IsIn}
 use Rattle.source_machine.specs.Fitting.{Fits}
 use Rattle.source_machine.specs.Runs.{driven_nets}
-use Rattle.source_machine.specs.Orders.{start_nets, IsKnown, IsOrdered}
+use Rattle.source_machine.specs.Orders.{start_nets, IsKnown, IsOrdered, IsEvaluationOrder}
 use Rattle.source_machine.specs.Searching.{IsFirst, IsFirstMissing}
 use Rattle.source_machine.specs.Stages.{AllLinked}
 use Rattle.source_machine.specs.Steps.{TablesFit, IsClosure}
 use Rattle.source_machine.specs.Founding.{IsTablesOf}
-use Rattle.source_machine.specs.Grounding.{row_nets, used_nets, IsUndriven, IsUngrounded, IsNever}
+use Rattle.source_machine.specs.Grounding.{row_nets, used_nets, IsUndriven, IsUngrounded, IsNever, IsWellFounded}
 use Rattle.source_machine.proofs.Mapped.{length_mapped}
 use Rattle.source_machine.proofs.Counting.{lower_or_not, IsIn-append, IsIn-left, IsIn-right, IsIn-flat_map, IsIn-from_map}
 use Rattle.source_machine.proofs.Searches.{IsIn-at, IsIn-behind}
+use Rattle.source_machine.proofs.Grounds.{not_both}
 use Rattle.source_machine.proofs.Exists.{driven_numbered}
 use Rattle.source_machine.proofs.Judged.{used_in_range, equation_in_range}
 use Rattle.source_machine.proofs.Closures.{item_at, sound, complete, start_grounded, IsFirst-same}
@@ -61,57 +62,74 @@ pub undriven_is : (machine : PlainMachine) (found : Option ℕ) → IsFirstMissi
 undriven_is machine found h =
     IsFirst-same (λ net. IsIn net (used_nets machine) × (IsIn net (driven_nets machine ++ 0 ∷ []) → ⊥)) (IsUndriven machine) (λ n p. (λ e. p.1 (IsIn-right n (driven_nets machine) (0 ∷ []) (inl (sym e))), p.0, λ i. p.1 (IsIn-left n (driven_nets machine) (0 ∷ []) i))) (λ n q. (q.1, λ i. elim (IsIn-behind n 0 (driven_nets machine) i) [ inl j ↦ q.2 j | inr e ↦ q.0 (sym e) ])) found h
 
-pub ungrounded_is : (machine : PlainMachine) (tables : Tables) (nets : List ℕ) (found : Option ℕ) → IsTablesOf machine tables → IsClosure tables nets → IsFirstMissing tables.targets.items (nets ++ tables.starts.items) found → IsFirst (IsUngrounded machine) found
-ungrounded_is machine tables nets found t closure h =
-    IsFirst-same (λ net. IsIn net tables.targets.items × (IsIn net (nets ++ tables.starts.items) → ⊥)) (IsUngrounded machine) missing_ungrounded ungrounded_missing found h
-  where
-    order : List ℕ
-    order = closure.order
+-- the longest order over the lists of a machine, in the machine's own words
+module _ (machine : PlainMachine) (tables : Tables) (order : List ℕ) (t : IsTablesOf machine tables) (closure : IsClosure tables order) where
+  order_ordered : IsOrdered (start_nets machine) (map (λ equation. equation.net) machine.equations) (map row_nets machine.equations) order
+  order_ordered = subst (λ s. IsOrdered s (map (λ equation. equation.net) machine.equations) (map row_nets machine.equations) order) t.starts_are (subst (λ l. IsOrdered tables.starts.items l (map row_nets machine.equations) order) t.targets_are (subst (λ l. IsOrdered tables.starts.items tables.targets.items l order) t.reads_are closure.ordered))
 
-    nets_are : nets ≡ map (slice_index (map (λ equation. equation.net) machine.equations)) order
-    nets_are = closure.nets_are ∙ ap (λ l. map (slice_index l) order) t.targets_are
+  order_in_range : (equation : ℕ) → IsIn equation order → equation < length (map row_nets machine.equations)
+  order_in_range equation i = omega (arith, closure.in_range equation i, ap (λ l. length l) t.reads_are)
 
-    ordered : IsOrdered (start_nets machine) (map (λ equation. equation.net) machine.equations) (map row_nets machine.equations) order
-    ordered = subst (λ s. IsOrdered s (map (λ equation. equation.net) machine.equations) (map row_nets machine.equations) order) t.starts_are (subst (λ l. IsOrdered tables.starts.items l (map row_nets machine.equations) order) t.targets_are (subst (λ l. IsOrdered tables.starts.items tables.targets.items l order) t.reads_are closure.ordered))
+  known_is : (net : ℕ) → IsKnown tables.starts.items tables.targets.items order net → IsKnown (start_nets machine) (map (λ equation. equation.net) machine.equations) order net
+  known_is net k = subst (λ s. IsKnown s (map (λ equation. equation.net) machine.equations) order net) t.starts_are (subst (λ l. IsKnown tables.starts.items l order net) t.targets_are k)
 
-    in_range : (equation : ℕ) → IsIn equation order → equation < length (map row_nets machine.equations)
-    in_range equation i = omega (arith, closure.in_range equation i, ap (λ l. length l) t.reads_are)
+  known_from : (net : ℕ) → IsKnown (start_nets machine) (map (λ equation. equation.net) machine.equations) order net → IsKnown tables.starts.items tables.targets.items order net
+  known_from net k = subst (λ s. IsKnown s tables.targets.items order net) (sym t.starts_are) (subst (λ l. IsKnown (start_nets machine) l order net) (sym t.targets_are) k)
 
-    known_is : (net : ℕ) → IsKnown tables.starts.items tables.targets.items order net → IsKnown (start_nets machine) (map (λ equation. equation.net) machine.equations) order net
-    known_is net k = subst (λ s. IsKnown s (map (λ equation. equation.net) machine.equations) order net) t.starts_are (subst (λ l. IsKnown tables.starts.items l order net) t.targets_are k)
+  order_closed : (equation : ℕ) → equation < length machine.equations → ((net : ℕ) → IsIn net (get_or (map row_nets machine.equations) equation []) → IsKnown (start_nets machine) (map (λ equation. equation.net) machine.equations) order net) → IsKnown (start_nets machine) (map (λ equation. equation.net) machine.equations) order (slice_index (map (λ equation. equation.net) machine.equations) equation)
+  order_closed equation lt all =
+      subst (λ l. IsKnown (start_nets machine) (map (λ equation. equation.net) machine.equations) order (slice_index l equation)) t.targets_are
+      (known_is (slice_index tables.targets.items equation) (closure.closed equation (omega (arith, lt, ap (λ l. length l) t.reads_are, length_mapped row_nets machine.equations, length_mapped (λ nets. nets.items) tables.reads.items)) (λ net i. known_from net (all net (subst (λ l. IsIn net (get_or l equation [])) t.reads_are i)))))
 
-    known_from : (net : ℕ) → IsKnown (start_nets machine) (map (λ equation. equation.net) machine.equations) order net → IsKnown tables.starts.items tables.targets.items order net
-    known_from net k = subst (λ s. IsKnown s tables.targets.items order net) (sym t.starts_are) (subst (λ l. IsKnown (start_nets machine) l order net) (sym t.targets_are) k)
+  -- a well founded machine has its equations in the longest order
+  pub order_is : Fits machine → IsWellFounded machine → IsEvaluationOrder machine order
+  order_is fits founded = record {
+    ordered = order_ordered;
+    in_range = λ equation i. omega (arith, order_in_range equation i, length_mapped row_nets machine.equations);
+    all = λ net i. valued net i (complete machine order order_closed net (founded.all_grounded net i));
+  }
+    where
+      no_start : (net : ℕ) → IsIn net (map (λ equation. equation.net) machine.equations) → IsIn net (start_nets machine) → ⊥
+      no_start net i (inl e) =
+          let n = driven_numbered machine fits net (IsIn-right net machine.inputs _ (IsIn-right net (map (λ latch. latch.out) machine.latches) _ i)) in
+          let low : 1 ≤ net = n.0 in omega arith
+      no_start net i (inr j) = not_both machine founded net (IsIn-append net machine.inputs _ j) i
 
-    closed : (equation : ℕ) → equation < length machine.equations → ((net : ℕ) → IsIn net (get_or (map row_nets machine.equations) equation []) → IsKnown (start_nets machine) (map (λ equation. equation.net) machine.equations) order net) → IsKnown (start_nets machine) (map (λ equation. equation.net) machine.equations) order (slice_index (map (λ equation. equation.net) machine.equations) equation)
-    closed equation lt all =
-        subst (λ l. IsKnown (start_nets machine) (map (λ equation. equation.net) machine.equations) order (slice_index l equation)) t.targets_are
-        (known_is (slice_index tables.targets.items equation) (closure.closed equation (omega (arith, lt, ap (λ l. length l) t.reads_are, length_mapped row_nets machine.equations, length_mapped (λ nets. nets.items) tables.reads.items)) (λ net i. known_from net (all net (subst (λ l. IsIn net (get_or l equation [])) t.reads_are i)))))
+      valued : (net : ℕ) → IsIn net (map (λ equation. equation.net) machine.equations) → IsKnown (start_nets machine) (map (λ equation. equation.net) machine.equations) order net → IsIn net (map (slice_index (map (λ equation. equation.net) machine.equations)) order)
+      valued net i (inl s) = absurd (no_start net i s)
+      valued net i (inr j) = j
 
-    missing_ungrounded : (net : ℕ) → IsIn net tables.targets.items × (IsIn net (nets ++ tables.starts.items) → ⊥) → IsUngrounded machine net
-    missing_ungrounded net p = (
-      subst (λ l. IsIn net l) t.targets_are p.0,
-      λ g. elim (complete machine order closed net g) [
-        | inl s ↦ p.1 (IsIn-right net nets tables.starts.items (subst (λ l. IsIn net l) (sym t.starts_are) s))
-        | inr i ↦ p.1 (IsIn-left net nets tables.starts.items (subst (λ l. IsIn net l) (sym nets_are) i))
-      ],
-    )
+  pub ungrounded_is : (nets : List ℕ) (found : Option ℕ) → nets ≡ map (slice_index tables.targets.items) order → IsFirstMissing tables.targets.items (nets ++ tables.starts.items) found → IsFirst (IsUngrounded machine) found
+  ungrounded_is nets found are h =
+      IsFirst-same (λ net. IsIn net tables.targets.items × (IsIn net (nets ++ tables.starts.items) → ⊥)) (IsUngrounded machine) missing_ungrounded ungrounded_missing found h
+    where
+      nets_are : nets ≡ map (slice_index (map (λ equation. equation.net) machine.equations)) order
+      nets_are = are ∙ ap (λ l. map (slice_index l) order) t.targets_are
 
-    ungrounded_missing : (net : ℕ) → IsUngrounded machine net → IsIn net tables.targets.items × (IsIn net (nets ++ tables.starts.items) → ⊥)
-    ungrounded_missing net q = (
-      subst (λ l. IsIn net l) (sym t.targets_are) q.0,
-      λ i. q.1 (elim (IsIn-append net nets tables.starts.items i) [
-        | inl j ↦ sound machine order ordered in_range net (subst (λ l. IsIn net l) nets_are j)
-        | inr j ↦ start_grounded machine order net (subst (λ l. IsIn net l) t.starts_are j)
-      ]),
-    )
+      missing_ungrounded : (net : ℕ) → IsIn net tables.targets.items × (IsIn net (nets ++ tables.starts.items) → ⊥) → IsUngrounded machine net
+      missing_ungrounded net p = (
+        subst (λ l. IsIn net l) t.targets_are p.0,
+        λ g. elim (complete machine order order_closed net g) [
+          | inl s ↦ p.1 (IsIn-right net nets tables.starts.items (subst (λ l. IsIn net l) (sym t.starts_are) s))
+          | inr i ↦ p.1 (IsIn-left net nets tables.starts.items (subst (λ l. IsIn net l) (sym nets_are) i))
+        ],
+      )
 
-pub closure_fit : (machine : PlainMachine) → Fits machine → (tables : Tables) (nets : List ℕ) → IsTablesOf machine tables → IsClosure tables nets → (net : ℕ) → IsIn net (nets ++ tables.starts.items) → net < tables.count
-closure_fit machine fits tables nets t closure net i = elim (IsIn-append net nets tables.starts.items i) [
-  | inr j ↦ omega (arith, t.count_is, start_fit machine fits net (subst (λ l. IsIn net l) t.starts_are j))
-  | inl j ↦ let r = IsIn-from_map (slice_index tables.targets.items) net closure.order (subst (λ l. IsIn net l) closure.nets_are j) in
-      let low : slice_index tables.targets.items r.0 < tables.count = t.fit.nets_fit.targets_fit r.0 (omega (arith, closure.in_range r.0 r.1, t.fit.nets_fit.paired)) in subst (λ n. n < tables.count) r.2 low
-]
+      ungrounded_missing : (net : ℕ) → IsUngrounded machine net → IsIn net tables.targets.items × (IsIn net (nets ++ tables.starts.items) → ⊥)
+      ungrounded_missing net q = (
+        subst (λ l. IsIn net l) (sym t.targets_are) q.0,
+        λ i. q.1 (elim (IsIn-append net nets tables.starts.items i) [
+          | inl j ↦ sound machine order order_ordered order_in_range net (subst (λ l. IsIn net l) nets_are j)
+          | inr j ↦ start_grounded machine order net (subst (λ l. IsIn net l) t.starts_are j)
+        ]),
+      )
+
+  pub closure_fit : Fits machine → (nets : List ℕ) → nets ≡ map (slice_index tables.targets.items) order → (net : ℕ) → IsIn net (nets ++ tables.starts.items) → net < machine.nets + 1
+  closure_fit fits nets are net i = elim (IsIn-append net nets tables.starts.items i) [
+    | inr j ↦ start_fit machine fits net (subst (λ l. IsIn net l) t.starts_are j)
+    | inl j ↦ let r = IsIn-from_map (slice_index tables.targets.items) net order (subst (λ l. IsIn net l) are j) in
+        let low : slice_index tables.targets.items r.0 < tables.count = t.fit.nets_fit.targets_fit r.0 (omega (arith, closure.in_range r.0 r.1, t.fit.nets_fit.paired)) in subst (λ n. n < machine.nets + 1) r.2 (omega (arith, low, t.count_is))
+  ]
 
 -- a search that found no net
 pub never_when : (P : ℕ → Type 0) (found : Option ℕ) → ((net : ℕ) → found ≡ Some net → ⊥) → IsFirst P found → IsNever P

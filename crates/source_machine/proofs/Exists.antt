@@ -10,7 +10,7 @@ use Rattle.source_machine.specs.Grounding.{Grounded, of_constant, of_input, of_l
 use Rattle.source_machine.specs.Laws.{RunExists, AreVectors}
 use Rattle.source_machine.proofs.Mapped.{length_mapped}
 use Rattle.source_machine.proofs.Counting.{is_in, same_or_not, lower_or_not, IsIn-append, IsIn-left, IsIn-right, IsIn-from_map, IsIn-flat_map, All-IsIn, times_in-append}
-use Rattle.source_machine.proofs.Values.{equation_value-same, SameOn}
+use Rattle.source_machine.proofs.RowValues.{equation_value-same, SameOn}
 use Rattle.source_machine.proofs.Sources.{bit_beside, bit_beside-absent, map-on, map-map, map-bit_beside, append-split, values_below, length-values_below, bit_in-values_below, bit_in-values_past}
 use Rattle.source_machine.proofs.Grounds.{extended, extended-is, value_by, same_equation, not_both, equation_net, one_equation}
 use Rattle.source_machine.proofs.Unique.{driven_grounded}

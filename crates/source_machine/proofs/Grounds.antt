@@ -5,7 +5,7 @@ use Rattle.source_machine.specs.Members.{IsIn, times_in}
 use Rattle.source_machine.specs.Runs.{equation_value, driven_nets}
 use Rattle.source_machine.specs.Grounding.{Grounded, of_constant, of_input, of_latch, of_equation, row_nets, IsWellFounded}
 use Rattle.source_machine.proofs.Counting.{is_in, IsIn-map, IsIn-times, times_in-append, same_item}
-use Rattle.source_machine.proofs.Values.{equation_value-same, SameOn}
+use Rattle.source_machine.proofs.RowValues.{equation_value-same, SameOn}
 
 -- a function of the nets of a list, as a function of all nets
 unfoldable pub choice : (nets : List ℕ) (net : ℕ) → IsIn net nets ⊎ (IsIn net nets → ⊥) → ((n : ℕ) → IsIn n nets → Bool) → Bool

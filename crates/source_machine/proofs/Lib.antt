@@ -1,6 +1,6 @@
 pub mod Mapped
 pub mod Counting
-pub mod Values
+pub mod RowValues
 pub mod Unique
 pub mod Sources
 pub mod Grounds
@@ -16,3 +16,4 @@ pub mod Stepping
 pub mod Spreading
 pub mod Closures
 pub mod Accepting
+pub mod Evaluated

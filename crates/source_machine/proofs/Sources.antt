@@ -3,7 +3,7 @@ use Rattle.std.proofs.Common.{◌≡◌, ℕ, zero, suc, ◌≤◌, ◌<◌, inl
 use Rattle.source_machine.specs.Members.{IsIn, times_in}
 use Rattle.source_machine.specs.Runs.{bit_in}
 use Rattle.source_machine.proofs.Counting.{times_in-head, IsIn-times}
-use Rattle.source_machine.proofs.Values.{SameOn}
+use Rattle.source_machine.proofs.RowValues.{SameOn}
 
 -- the bit beside the net's first place in the list, and 0 where it has none
 abbrev pub bit_beside : List ℕ → List Bool → ℕ → Bool

@@ -17,7 +17,7 @@ few_unknown [] = omega arith
 few_unknown (true ∷ bits) = omega (arith, few_unknown bits)
 few_unknown (false ∷ bits) = omega (arith, few_unknown bits)
 
-all_false : (count net : ℕ) → get_or (replicate count false) net false ≡ false
+pub all_false : (count net : ℕ) → get_or (replicate count false) net false ≡ false
 all_false zero net = refl
 all_false (suc count) zero = refl
 all_false (suc count) (suc net) = all_false count net
@@ -86,10 +86,8 @@ drop_whole : (xs : List ℕ) → drop (length xs) xs ≡ []
 drop_whole [] = refl
 drop_whole (x ∷ xs) = drop_whole xs
 
-pub closes : (tables : Tables) (stage : Stage) → StageFits tables stage → ((other : ℕ) → other < length tables.reads.items → Settles tables stage (length stage.order) other) → (nets : List ℕ) → nets ≡ map (slice_index tables.targets.items) stage.order → IsClosure tables nets
-closes tables stage fits settled nets e = record {
-  order = stage.order;
-  nets_are = e;
+pub closes : (tables : Tables) (stage : Stage) → StageFits tables stage → ((other : ℕ) → other < length tables.reads.items → Settles tables stage (length stage.order) other) → IsClosure tables stage.order
+closes tables stage fits settled = record {
   ordered = fits.ordered;
   in_range = fits.in_range;
   closed = λ equation lt all. go equation all (settled equation lt);

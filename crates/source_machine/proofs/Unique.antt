@@ -6,7 +6,7 @@ use Rattle.source_machine.specs.Runs.{bit_in, driven_nets, Agrees, next_state, i
 use Rattle.source_machine.specs.Grounding.{Grounded, of_constant, of_input, of_latch, of_equation, IsWellFounded}
 use Rattle.source_machine.specs.Laws.{RunsAreEqual}
 use Rattle.source_machine.proofs.Counting.{IsIn-append, is_in}
-use Rattle.source_machine.proofs.Values.{equation_value-same, map-same_at, map-same_on, same_bits}
+use Rattle.source_machine.proofs.RowValues.{equation_value-same, map-same_at, map-same_on, same_bits}
 
 -- what is driven is grounded
 pub driven_grounded : (machine : PlainMachine) → IsWellFounded machine → (net : ℕ) → IsIn net (driven_nets machine) → Grounded machine net

@@ -2,12 +2,22 @@
 use Rattle.std.specs.Prelude.{◌≡◌, ◌⊎◌, List, Bool, length, All}
 use Rattle.source_machine.specs.Machines.{PlainMachine}
 use Rattle.source_machine.specs.Fitting.{Fits}
-use Rattle.source_machine.specs.Runs.{IsRun}
+use Rattle.source_machine.specs.Runs.{Agrees, IsRun}
 use Rattle.source_machine.specs.Grounding.{IsWellFounded, Refusal, IsFirstRefusal}
 
 -- each vector has a bit for each input
 abbrev pub AreVectors : PlainMachine → List (List Bool) → Type 0
 AreVectors machine vectors = All (λ vector. length vector ≡ length machine.inputs) vectors
+
+-- a well founded machine has a valuation that agrees with a bit for each latch and a bit for each input
+abbrev pub ValuationExists : Type 0
+ValuationExists =
+    (machine : PlainMachine) → Fits machine → IsWellFounded machine → (state vector : List Bool) → length state ≡ length machine.latches → length vector ≡ length machine.inputs → (valuation : List Bool) × Agrees machine state vector valuation
+
+-- two valuations of a well founded machine that agree with the same bits are the same
+abbrev pub ValuationsAreEqual : Type 0
+ValuationsAreEqual =
+    (machine : PlainMachine) → Fits machine → IsWellFounded machine → (state vector : List Bool) → (one other : List Bool) → Agrees machine state vector one → Agrees machine state vector other → one ≡ other
 
 -- two runs of a well founded machine on the same vectors are the same
 abbrev pub RunsAreEqual : Type 0

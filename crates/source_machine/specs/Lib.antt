@@ -8,5 +8,6 @@ pub mod Searching
 pub mod Stages
 pub mod Steps
 pub mod Founding
+pub mod Evaluating
 pub mod Laws
 pub mod Examples

@@ -30,10 +30,8 @@ pub record Steps (tables : Tables) (before after : Stage) : Type 0 where
   pub grown : (more : List ℕ) × (after.order ≡ before.order ++ more)
   pub others : (done other : ℕ) → done ≤ length before.order → Settles tables before done other → Settles tables after done other
 
--- the nets of an order that can't be made longer
-pub record IsClosure (tables : Tables) (nets : List ℕ) : Type 0 where
-  pub order : List ℕ
-  pub nets_are : nets ≡ map (slice_index tables.targets.items) order
+-- an order of equations that can't be made longer
+pub record IsClosure (tables : Tables) (order : List ℕ) : Type 0 where
   pub ordered : IsOrdered tables.starts.items tables.targets.items (map (λ nets. nets.items) tables.reads.items) order
   pub in_range : (equation : ℕ) → IsIn equation order → equation < length (map (λ nets. nets.items) tables.reads.items)
   pub closed : (equation : ℕ) → equation < length tables.reads.items → ((net : ℕ) → IsIn net (get_or (map (λ nets. nets.items) tables.reads.items) equation []) → IsKnown tables.starts.items tables.targets.items order net) → IsKnown tables.starts.items tables.targets.items order (slice_index tables.targets.items equation)

@@ -5,11 +5,13 @@ ghost use Rattle.source_machine.specs.Machines.{machine_of};
 ghost use Rattle.source_machine.specs.Fitting.{Fits};
 ghost use Rattle.source_machine.specs.Searching.{IsFirst};
 ghost use Rattle.source_machine.specs.Grounding.{IsWellFounded, IsDrivenTwice, IsUndriven, IsUngrounded};
+ghost use Rattle.source_machine.specs.Orders.{IsEvaluationOrder};
+ghost use Rattle.source_machine.specs.Steps.{IsClosure};
 ghost use Rattle.source_machine.specs.Founding.{IsTablesOf, IsRefusedFor};
 
 use crate::faults::{first_missing, first_twice};
 use crate::machines::RawMachine;
-use crate::ordering::grounded_nets;
+use crate::ordering::{evaluation_order, nets_of};
 use crate::readers::{Readers, Tables};
 use crate::verdicts::Grounding;
 use pulse_ids::{Ident, NetId, NoMemory};
@@ -21,6 +23,8 @@ use std::marker::Model;
 #[derive(Debug, Drop)]
 pub struct Machine {
     raw: RawMachine,
+    /// The numbers of the equations, each after those whose nets it reads.
+    order: Vec<usize>,
 }
 
 impl Model for Machine {
@@ -33,8 +37,9 @@ impl Model for Machine {
     ghost use Rattle.source_machine.specs.Machines.{machine_of};
     ghost use Rattle.source_machine.specs.Fitting.{Fits};
     ghost use Rattle.source_machine.specs.Grounding.{IsWellFounded};
+    ghost use Rattle.source_machine.specs.Orders.{IsEvaluationOrder};
 
-    ghost invariant = { λ machine. Fits (machine_of machine.raw) × IsWellFounded (machine_of machine.raw) };
+    ghost invariant = { λ machine. Fits (machine_of machine.raw) × IsWellFounded (machine_of machine.raw) × IsEvaluationOrder (machine_of machine.raw) machine.order.items };
 }
 
 impl Machine {
@@ -46,11 +51,18 @@ impl Machine {
     {
         &self.raw
     }
+
+    /// The numbers of the equations, each after those whose nets it reads.
+    pub(crate) fn order(&self) -> &[usize]
+        ensures { IsEvaluationOrder (machine_of self.now) result.now }
+    {
+        self.order.as_slice()
+    }
 }
 
 impl RawMachine {
     /// How many nets there are, with net 0.
-    fn net_count(&self) -> usize
+    pub(crate) fn net_count(&self) -> usize
         ensures { result ≡ self.now.nets + 1 }
     {
         self.nets as usize + 1
@@ -96,17 +108,23 @@ impl RawMachine {
         })
     }
 
-    /// The lowest net of an equation that has no value.
-    fn ungrounded(&self, alloc: Global) -> Result<Option<u32>, NoMemory>
-        requires { Fits (machine_of self.now) }
+    /// The lowest net of an equation that has no value, given the longest order of equations.
+    fn ungrounded(
+        &self,
+        alloc: Global,
+        tables: &Tables,
+        order: &[usize],
+    ) -> Result<Option<u32>, NoMemory>
+        requires fits { Fits (machine_of self.now) }
+        requires tables { IsTablesOf (machine_of self.now) tables.now }
+        requires order { IsClosure tables.now order.now }
         ensures { IfOk result (λ found. IsFirst (IsUngrounded (machine_of self.now)) found) }
     {
-        let tables = self.tables(alloc)?;
-        let mut known = grounded_nets(alloc, &tables)?;
+        let mut known = nets_of(alloc, tables, order)?;
         push_nets(&mut known, tables.starts.as_slice())?;
         let found = first_missing(
             alloc,
-            tables.count,
+            self.net_count(),
             tables.targets.as_slice(),
             known.as_slice(),
         )?;
@@ -141,8 +159,10 @@ pub fn ground(alloc: Global, raw: RawMachine) -> Result<Machine, Grounding>
     if let Some(net) = raw.undriven(alloc)? {
         return Err(Grounding::Undriven(NetId::new(net)));
     }
-    if let Some(net) = raw.ungrounded(alloc)? {
+    let tables = raw.tables(alloc)?;
+    let order = evaluation_order(alloc, &tables)?;
+    if let Some(net) = raw.ungrounded(alloc, &tables, order.as_slice())? {
         return Err(Grounding::Cycle(NetId::new(net)));
     }
-    Ok(Machine { raw })
+    Ok(Machine { raw, order })
 }

@@ -1,10 +1,12 @@
 //! What is true of every machine. These functions do nothing: their clauses are the laws.
 
 ghost use Rattle.source_machine.specs.Examples.{TogglesThrice, AddsTwoBits, HalfAdderIsAccepted, NamesAreJudged, OffSetIsOr, NoRowIsOff, EmptyRowIsOn, RingIsRefused, ClashIsRefused, LooseIsRefused, SpareIsAccepted};
-ghost use Rattle.source_machine.specs.Laws.{RunsAreEqual, RunExists, FoundedIsNotRefused, RefusalsAreEqual, FitsIsJudged};
+ghost use Rattle.source_machine.specs.Laws.{ValuationExists, ValuationsAreEqual, RunsAreEqual, RunExists, FoundedIsNotRefused, RefusalsAreEqual, FitsIsJudged};
 
-/// A well founded machine computes one thing.
+/// A well founded machine computes one thing: in each cycle, and over any vectors.
 pub fn one_run()
+    ensures one_valuation { ValuationExists }
+    ensures same_valuation { ValuationsAreEqual }
     ensures at_least_one { RunExists }
     ensures at_most_one { RunsAreEqual }
 {}

@@ -15,6 +15,7 @@ mod places;
 mod readers;
 #[cfg(test)]
 mod tests;
+mod valuations;
 mod verdicts;
 
 pub use covers::Cover;
@@ -22,4 +23,5 @@ pub use founding::{Machine, ground};
 pub use laws::{examples, one_run, one_verdict};
 pub use machines::{Equation, Latch, RawMachine};
 pub use places::Place;
+pub use valuations::{Values, step};
 pub use verdicts::Grounding;

@@ -150,18 +150,6 @@ impl Progress {
         }
         Ok(())
     }
-
-    /// The nets of the ordered equations.
-    fn valued_nets(&self, alloc: Global, tables: &Tables) -> Result<Vec<u32>, NoMemory>
-        requires { (equation : ℕ) → IsIn equation self.now.order → equation < length tables.now.targets.items }
-        ensures { IfOk result (λ nets. nets.items ≡ map (slice_index tables.now.targets.items) self.now.order) }
-    {
-        let mut nets = Vec::with_capacity(alloc, self.order.len())?;
-        for place in 0..self.len() {
-            nets.push(tables.targets[self.at(place)])?;
-        }
-        Ok(nets)
-    }
 }
 
 /// So many zeros.
@@ -171,15 +159,26 @@ fn zeros(alloc: Global, count: usize) -> Result<Vec<usize>, NoMemory>
     Ok(vec![in alloc; 0usize; count]?)
 }
 
-/// The nets of the equations that can be ordered so that each reads nets that are known before.
-pub(crate) fn grounded_nets(alloc: Global, tables: &Tables) -> Result<Vec<u32>, NoMemory>
+/// The nets of these equations.
+pub(crate) fn nets_of(alloc: Global, tables: &Tables, order: &[usize]) -> Result<Vec<u32>, NoMemory>
+    requires { (equation : ℕ) → IsIn equation order.now → equation < length tables.now.targets.items }
+    ensures { IfOk result (λ nets. nets.items ≡ map (slice_index tables.now.targets.items) order.now) }
+{
+    let mut nets = Vec::with_capacity(alloc, order.len())?;
+    for equation in order {
+        nets.push(tables.targets[*equation])?;
+    }
+    Ok(nets)
+}
+
+/// The longest order in which equations can get values, each from nets that are known before.
+pub(crate) fn evaluation_order(alloc: Global, tables: &Tables) -> Result<Vec<usize>, NoMemory>
     requires tables { TablesFit tables.now }
     requires starts { (net : ℕ) → IsIn net tables.now.starts.items → net < tables.now.count }
-    ensures { IfOk result (λ nets. IsClosure tables.now nets.items) }
+    ensures { IfOk result (λ order. IsClosure tables.now order.items) }
 {
     let mut progress = Progress::begin(alloc, tables)?;
     progress.visit_all(tables)?;
     progress.spread(tables)?;
-    let nets = progress.valued_nets(alloc, tables)?;
-    Ok(nets)
+    Ok(progress.order)
 }

@@ -1,8 +1,9 @@
 //! Whether each net of a machine has a value, and why not.
 
-ghost use Rattle.std.specs.Prelude.{◌≡◌, ◌≤◌, ◌<◌, ◌+◌, ◌++◌, List, take, length, map, IfOk, IfErr, OnOk};
+ghost use Rattle.std.specs.Prelude.{◌≡◌, ◌≤◌, ◌<◌, ◌+◌, ◌++◌, ◌∷◌, [], List, take, length, map, IfOk, IfErr, OnOk};
 ghost use Rattle.source_machine.specs.Machines.{machine_of};
 ghost use Rattle.source_machine.specs.Fitting.{Fits};
+ghost use Rattle.source_machine.specs.Runs.{driven_nets};
 ghost use Rattle.source_machine.specs.Searching.{IsFirst};
 ghost use Rattle.source_machine.specs.Grounding.{IsWellFounded, IsDrivenTwice, IsUndriven, IsUngrounded};
 ghost use Rattle.source_machine.specs.Orders.{IsEvaluationOrder};
@@ -78,13 +79,21 @@ impl RawMachine {
         Ok(found)
     }
 
+    /// The nets that are driven, and net 0.
+    fn driven_or_constant(&self, alloc: Global) -> Result<Vec<u32>, NoMemory>
+        ensures { IfOk result (λ nets. nets.items ≡ driven_nets (machine_of self.now) ++ 0 ∷ []) }
+    {
+        let mut nets = self.driven_nets(alloc)?;
+        nets.push(0)?;
+        Ok(nets)
+    }
+
     /// The lowest net other than net 0 that is used and that nothing drives.
     fn undriven(&self, alloc: Global) -> Result<Option<u32>, NoMemory>
         requires { Fits (machine_of self.now) }
         ensures { IfOk result (λ found. IsFirst (IsUndriven (machine_of self.now)) found) }
     {
-        let mut driven = self.driven_nets(alloc)?;
-        driven.push(0)?;
+        let driven = self.driven_or_constant(alloc)?;
         let used = self.used_nets(alloc)?;
         let found = first_missing(alloc, self.net_count(), used.as_slice(), driven.as_slice())?;
         Ok(found)

@@ -1,4 +1,4 @@
-use Rattle.std.proofs.Common.{◌∙◌, ◌++◌, ◌∷◌, [], inl, inr, ap, subst, arith}
+use Rattle.std.proofs.Common.{◌∙◌, inl, inr, subst, arith}
 use Rattle.source_machine.specs.Members.{IsIn}
 use Rattle.source_machine.specs.Machines.{machine_of}
 use Rattle.source_machine.specs.Runs.{driven_nets}
@@ -14,7 +14,7 @@ first_missing-requires-clause-nets_fit c net i =
 
 pub first_missing-requires-clause-removed_fit : goal.first_missing-requires-clause-removed_fit
 first_missing-requires-clause-removed_fit c net i =
-    elim (IsIn-behind net 0 (driven_nets (machine_of c.args.self.now)) (subst (λ l. IsIn net l) (c.as_slice-2.ensures.value ∙ c.in_ok-push.ensures.items ∙ ap (λ l. l ++ 0 ∷ []) c.in_ok-driven.ensures) i)) [
+    elim (IsIn-behind net 0 (driven_nets (machine_of c.args.self.now)) (subst (λ l. IsIn net l) (c.as_slice-2.ensures.value ∙ c.in_ok-driven.ensures) i)) [
       | inl j ↦ omega (arith, c.net_count.ensures, driven_fit (machine_of c.args.self.now) c.requires net j)
       | inr e ↦ omega (arith, c.net_count.ensures, e)
     ]
@@ -22,5 +22,5 @@ first_missing-requires-clause-removed_fit c net i =
 pub returns : goal.returns
 returns c =
     undriven_is (machine_of c.args.self.now) c.in_ok-found.found
-    (subst (λ l. IsFirstMissing (used_nets (machine_of c.args.self.now)) l c.in_ok-found.found) (c.as_slice-2.ensures.value ∙ c.in_ok-push.ensures.items ∙ ap (λ l. l ++ 0 ∷ []) c.in_ok-driven.ensures)
+    (subst (λ l. IsFirstMissing (used_nets (machine_of c.args.self.now)) l c.in_ok-found.found) (c.as_slice-2.ensures.value ∙ c.in_ok-driven.ensures)
     (subst (λ l. IsFirstMissing l c.as_slice-2.result.now c.in_ok-found.found) (c.as_slice.ensures.value ∙ c.in_ok-used.ensures) c.in_ok-found.ensures))

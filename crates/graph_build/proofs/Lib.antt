@@ -1,9 +1,17 @@
+pub mod Growing
+pub mod Changes
 pub mod EquationSteps
 pub mod EquationValues
+pub mod Founded
 pub mod Growth
+pub mod Keys
+pub mod Known
 pub mod LiteralValues
+pub mod Marks
 pub mod Members
 pub mod NetLiterals
 pub mod Results
 pub mod RowSteps
 pub mod SizeLemmas
+pub mod Tabled
+pub mod Visits

@@ -28,7 +28,7 @@ used_built machine order founded h net i = go (same_or_not net 0)
   where
     of_equation : IsIn net (equation_nets machine) → IsBuilt machine order net
     of_equation j =
-        let p = place_of net (equation_nets machine) j in
+        let p = place_of net (equation_nets machine) 0 j in
         inr (subst (λ n. IsIn n (map (slice_index (equation_nets machine)) order)) p.2 (IsIn-map (slice_index (equation_nets machine)) p.0 order (h.complete p.0 (omega (arith, p.1, length-map machine.equations (λ equation. equation.net))))))
 
     of_rest : IsIn net (map (λ latch. latch.out) machine.latches) ⊎ IsIn net (equation_nets machine) → IsBuilt machine order net

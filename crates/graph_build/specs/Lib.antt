@@ -2,4 +2,6 @@ pub mod Built
 pub mod Equations
 pub mod Literals
 pub mod Orders
+pub mod Queues
+pub mod Searches
 pub mod Sizes

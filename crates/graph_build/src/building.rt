@@ -13,7 +13,7 @@ ghost use Rattle.graph_build.specs.Orders.{IsBuilt, IsBuildOrder};
 use crate::built::Built;
 use crate::equations::equation_literal;
 use crate::literals::{node_literal, zero};
-use crate::orders::build_order;
+use crate::ordering::build_order;
 use aig_core::Graph;
 use pulse_ids::{Lit, NetId, NoMemory, NodeLit, Row};
 use source_machine::{Latch, Machine, RawMachine};
@@ -63,7 +63,7 @@ fn build_equations(
     graph: &mut Graph,
     literals: &mut Row<NetId, NodeLit>,
     raw: &RawMachine,
-    order: &[u32],
+    order: &[usize],
 ) -> Result<(), NoMemory>
     requires fits { Fits (machine_of raw.now) }
     requires order { IsBuildOrder (machine_of raw.now) order.now }
@@ -73,7 +73,7 @@ fn build_equations(
     ensures small { OnOk result (length graph.new.pairs ≤ size_of (machine_of raw.now)) }
 {
     for number in order {
-        let equation = &raw.equations[*number as usize];
+        let equation = &raw.equations[*number];
         let literal = equation_literal(graph, literals, equation)?;
         literals.set(equation.net, literal);
     }

@@ -5,7 +5,12 @@ mod building;
 mod built;
 mod equations;
 mod literals;
-mod orders;
+#[cfg(test)]
+mod order_tests;
+mod ordering;
+mod queues;
+#[cfg(test)]
+mod tests;
 
 pub use building::build;
 pub use built::Built;

@@ -99,7 +99,9 @@ impl RawMachine {
         Ok(found)
     }
 
-    fn tables(&self, alloc: Global) -> Result<Tables, NoMemory>
+    /// The nets and equations as a search for an order of the equations reads them. It takes time
+    /// and memory linear in the nets and literals, and fails only for want of memory.
+    pub fn tables(&self, alloc: Global) -> Result<Tables, NoMemory>
         requires { Fits (machine_of self.now) }
         ensures { IfOk result (λ tables. IsTablesOf (machine_of self.now) tables) }
     {

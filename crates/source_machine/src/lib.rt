@@ -23,5 +23,6 @@ pub use founding::{Machine, ground};
 pub use laws::{examples, one_run, one_verdict};
 pub use machines::{Equation, Latch, RawMachine};
 pub use places::Place;
+pub use readers::{Readers, Tables};
 pub use valuations::{Values, step};
 pub use verdicts::Grounding;

@@ -11,7 +11,7 @@ use std::marker::Model;
 /// For each net the equations that read it, as lists that are linked by the places of their items
 /// plus 1, and end in 0.
 #[derive(Drop)]
-pub(crate) struct Readers {
+pub struct Readers {
     heads: Vec<usize>,
     owners: Vec<usize>,
     nexts: Vec<usize>,
@@ -75,21 +75,24 @@ impl Readers {
         Ok(readers)
     }
 
-    pub(crate) fn head(&self, net: u32) -> usize
+    /// The first place of a net's list plus 1, or 0 where nothing reads the net.
+    pub fn head(&self, net: u32) -> usize
         requires { net < length self.now.heads }
         ensures { result ≡ slice_index self.now.heads net }
     {
         self.heads[net as usize]
     }
 
-    pub(crate) fn owner(&self, place: usize) -> usize
+    /// The equation at a place.
+    pub fn owner(&self, place: usize) -> usize
         requires { place < length self.now.owners }
         ensures { result ≡ slice_index self.now.owners place }
     {
         self.owners[place]
     }
 
-    pub(crate) fn next(&self, place: usize) -> usize
+    /// The next place of the same list plus 1, or 0 at its end. It is lower than this place plus 1.
+    pub fn next(&self, place: usize) -> usize
         requires { place < length self.now.nexts }
         ensures { result ≡ slice_index self.now.nexts place }
     {
@@ -100,17 +103,22 @@ impl Readers {
 /// What the search for an order reads: the nets that are known at first, the net of each equation
 /// and the nets that it reads, all below the count, and the readers of each net.
 #[derive(Drop)]
-pub(crate) struct Tables {
-    pub(crate) count: usize,
-    pub(crate) starts: Vec<u32>,
-    pub(crate) targets: Vec<u32>,
-    pub(crate) reads: Vec<Vec<u32>>,
-    pub(crate) readers: Readers,
+pub struct Tables {
+    /// How many nets there are, with net 0.
+    pub count: usize,
+    /// Net 0, the inputs and the latch outputs.
+    pub starts: Vec<u32>,
+    /// The net of each equation.
+    pub targets: Vec<u32>,
+    /// The nets of the literals in each equation's rows.
+    pub reads: Vec<Vec<u32>>,
+    /// The equations that read each net.
+    pub readers: Readers,
 }
 
 impl Tables {
     /// How many equations there are.
-    pub(crate) fn len(&self) -> usize
+    pub fn len(&self) -> usize
         ensures { result ≡ length self.now.reads.items }
     {
         self.reads.len()

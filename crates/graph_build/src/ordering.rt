@@ -195,7 +195,8 @@ impl Progress {
 
 /// The numbers of a machine's equations in the order in which they are built: of the equations
 /// whose row nets are all built, that of the lowest net is next. It takes memory linear in the nets
-/// and literals, and time linear in them but for a logarithm at each equation.
+/// and literals, and time linear in them but for a logarithm at each equation. It fails only for
+/// want of memory.
 pub(crate) fn build_order(alloc: Global, machine: &RawMachine) -> Result<Vec<usize>, NoMemory>
     requires fits { Fits (machine_of machine.now) }
     requires founded { IsWellFounded (machine_of machine.now) }

@@ -2,6 +2,8 @@
 #![tactic(auto)]
 
 mod compiling;
+#[cfg(test)]
+mod greatest_tests;
 mod numbers;
 mod orders;
 mod outcomes;

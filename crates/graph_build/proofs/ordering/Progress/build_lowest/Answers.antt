@@ -1,5 +1,4 @@
-use Rattle.std.proofs.Common.{◌≡◌, ◌<◌, ◌++◌, ◌∷◌, [], ℕ, List, length, true, set, inl, sym, refl, subst, ◌∙◌, ap, arith}
-use Rattle.std.specs.Prelude.{slice_index}
+use Rattle.std.proofs.Common.{◌<◌, ℕ, length, inl, sym, refl, subst, ap, arith}
 use Rattle.source_machine.specs.Members.{IsIn}
 use Rattle.graph_build.specs.Searches.{Search, IsBuiltNext}
 use Rattle.graph_build.proofs.Changes.{built_next}

@@ -1,0 +1,5 @@
+use Rattle.rail_demand.proofs.Shown.{rails_are_judged}
+use Rattle.rail_demand.proofs.laws.examples.Goals as goal
+
+pub returns : goal.returns
+returns c = rails_are_judged

@@ -1,11 +1,10 @@
 //! The search for the needed rails, from the outputs on.
 
-ghost use Rattle.std.specs.Prelude.{◌≡◌, ℕ, ◌+◌, ◌*◌, ◌^◌, ◌<◌, ◌≤◌, [], ◌∷◌, true, map, length, slice_get, Some, IfOk};
-ghost use Rattle.pulse_ids.specs.declared.literals.Sign.{Sign as Signs};
+ghost use Rattle.std.specs.Prelude.{◌≡◌, ◌*◌, ◌^◌, ◌<◌, ◌≤◌, [], ◌∷◌, map, length, slice_get, Some, IfOk};
 ghost use Rattle.cell_netlist.specs.declared.kinds.Ask.{Ask as Asks};
 ghost use Rattle.cell_netlist.specs.Asked.{signs_of};
 ghost use Rattle.aig_core.specs.Graphs.{count_of};
-ghost use Rattle.rail_demand.specs.Demands.{nodes_in, is_needed, Needed, IsDemand};
+ghost use Rattle.rail_demand.specs.Demands.{nodes_in, Needed, IsDemand};
 ghost use Rattle.rail_demand.specs.Rails.{literal_rail};
 ghost use Rattle.rail_demand.specs.Searching.{none_of, HasRoom, Finds, FindsAll, IsStage, Steps, AreNeeded, IsClosedAt, IsClosedBefore, HasOutputs};
 

@@ -1,20 +1,20 @@
 -- One equation more has its literal.
-use Rattle.std.proofs.Common.{◌≡◌, ℕ, suc, ◌+◌, ◌≤◌, ◌<◌, ◌⊎◌, inl, inr, List, [], ◌∷◌, ◌++◌, Bool, All, length, map, take, drop, get_or, set, drop-cons, add-one, refl, sym, ◌∙◌, ap, subst, arith}
+use Rattle.std.proofs.Common.{◌≡◌, ℕ, ◌+◌, ◌≤◌, ◌<◌, ◌⊎◌, inl, inr, List, [], ◌∷◌, Bool, All, length, map, take, drop, get_or, set, drop-cons, add-one, sym, ◌∙◌, ap, subst, arith}
 use Rattle.std.specs.Prelude.{slice_index}
 use Rattle.std.proofs.lemmas.List.{get_or-map, length-map, take_more, map-append}
 use Rattle.pulse_ids.specs.Ids.{Lit, NodeLit}
-use Rattle.aig_core.specs.Graphs.{PlainGraph, count_of}
+use Rattle.aig_core.specs.Graphs.{PlainGraph}
 use Rattle.aig_core.specs.Values.{value_of}
 use Rattle.source_machine.specs.declared.machines.Equation.{Equation}
 use Rattle.source_machine.specs.declared.machines.RawMachine.{RawMachine}
 use Rattle.source_machine.specs.Machines.{PlainMachine, PlainEquation, literal_of, equation_of, machine_of}
 use Rattle.source_machine.specs.Members.{IsIn}
-use Rattle.source_machine.specs.Fitting.{Fits, LiteralFits, EquationFits, IsNumbered, size_of_rows, size_of}
+use Rattle.source_machine.specs.Fitting.{Fits, LiteralFits, EquationFits, size_of_rows, size_of}
 use Rattle.source_machine.specs.Runs.{Agrees, bit_in, equation_value}
 use Rattle.source_machine.specs.Grounding.{row_nets}
 use Rattle.source_machine.specs.Orders.{start_nets}
 use Rattle.graph_build.specs.Equations.{IsLiteralOf}
-use Rattle.graph_build.specs.Literals.{literal_at, net_value, IsWorth, HasLiterals}
+use Rattle.graph_build.specs.Literals.{net_value, HasLiterals}
 use Rattle.graph_build.specs.Orders.{equation_nets, IsBuilt, IsBuildOrder}
 use Rattle.graph_build.specs.Sizes.{equation_sizes, sum_at, AreEquationsSoFar}
 use Rattle.graph_build.proofs.EquationValues.{equation_value_same}

@@ -1,6 +1,6 @@
 -- What several conjunctions leave as it was.
-use Rattle.std.proofs.Common.{◌≡◌, ℕ, ◌+◌, ◌<◌, ◌≤◌, length, refl, ◌∙◌, arith}
-use Rattle.aig_core.specs.Graphs.{PlainGraph, count_of}
+use Rattle.std.proofs.Common.{◌≡◌, ℕ, ◌+◌, refl, ◌∙◌, arith}
+use Rattle.aig_core.specs.Graphs.{PlainGraph}
 use Rattle.aig_core.specs.Growth.{Grows}
 use Rattle.graph_build.specs.Literals.{Grew}
 

@@ -1,7 +1,7 @@
 -- The values of literals of nets.
-use Rattle.std.proofs.Common.{◌≡◌, ℕ, ◌<◌, List, Bool, true, false, not, ◌&&◌, ◌||◌, if◌then◌else◌, length, refl, sym, ◌∙◌, ap, subst, arith}
+use Rattle.std.proofs.Common.{◌≡◌, ◌<◌, List, Bool, true, false, not, ◌&&◌, ◌||◌, if◌then◌else◌, length, refl, ◌∙◌, ap}
 use Rattle.pulse_ids.specs.Ids.{NodeLit}
-use Rattle.aig_core.specs.Folds.{complement, zero_literal}
+use Rattle.aig_core.specs.Folds.{complement}
 use Rattle.aig_core.specs.Graphs.{PlainGraph, count_of}
 use Rattle.aig_core.specs.Values.{value_of, bit_in, bits_of}
 use Rattle.source_machine.specs.Machines.{PlainLiteral}

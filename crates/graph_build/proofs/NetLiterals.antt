@@ -1,5 +1,5 @@
 -- Nets get literals that are worth their bits.
-use Rattle.std.proofs.Common.{◌≡◌, ◌≢◌, ℕ, ◌+◌, ◌≤◌, ◌<◌, ◌⊎◌, inl, inr, List, [], ◌∷◌, ◌++◌, Bool, true, false, All, length, map, take, get_or, set, refl, sym, ◌∙◌, ap, subst, arith}
+use Rattle.std.proofs.Common.{◌≡◌, ◌≢◌, ℕ, ◌+◌, ◌≤◌, ◌<◌, ◌⊎◌, inl, inr, List, Bool, false, length, map, take, get_or, set, sym, ◌∙◌, ap, subst, arith}
 use Rattle.std.proofs.lemmas.List.{take_all, get_or_past, length-set, get_or-set_same, get_or-set_other, get_or-map, length-map}
 use Rattle.pulse_ids.specs.Ids.{NetId, NodeLit}
 use Rattle.aig_core.specs.Folds.{zero_literal}
@@ -12,8 +12,8 @@ use Rattle.source_machine.specs.Members.{IsIn}
 use Rattle.source_machine.specs.Fitting.{Fits, IsNumbered, LatchFits}
 use Rattle.source_machine.specs.Runs.{Agrees, bit_in}
 use Rattle.source_machine.specs.Orders.{start_nets}
-use Rattle.graph_build.specs.Literals.{literal_at, net_value, AllWithin, IsWorth, Grew, HasLiterals}
-use Rattle.graph_build.proofs.Members.{same_or_not, lower_or_not, IsIn-append, IsIn-taken, IsIn-at}
+use Rattle.graph_build.specs.Literals.{literal_at, AllWithin, IsWorth, Grew, HasLiterals}
+use Rattle.graph_build.proofs.Members.{same_or_not, lower_or_not, IsIn-append, IsIn-taken}
 
 pub fewer_built : (machine : PlainMachine) (graph : PlainGraph) (literals : List NodeLit) (built fewer : ℕ → Type 0) → ((net : ℕ) → fewer net → built net) → HasLiterals machine graph literals built → HasLiterals machine graph literals fewer
 fewer_built machine graph literals built fewer all h = record {

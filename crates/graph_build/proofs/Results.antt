@@ -1,6 +1,6 @@
 -- The literals of outputs and next states, once all equations are built.
 use Rattle.std.proofs.Common.{◌≡◌, ◌≢◌, ℕ, zero, suc, ◌+◌, ◌≤◌, ◌<◌, ◌⊎◌, inl, inr, List, [], ◌∷◌, ◌++◌, Bool, not, if◌then◌else◌, All, length, map, get_or, refl, sym, ◌∙◌, ap, subst, arith}
-use Rattle.std.specs.Prelude.{slice_get, slice_index, Some}
+use Rattle.std.specs.Prelude.{slice_index}
 use Rattle.std.specs.List.{flat_map}
 use Rattle.std.proofs.lemmas.List.{get_or-map, length-map}
 use Rattle.std.proofs.lemmas.List.Elements.{All-head, All-tail}
@@ -13,10 +13,10 @@ use Rattle.source_machine.specs.declared.machines.RawMachine.{RawMachine}
 use Rattle.source_machine.specs.Machines.{PlainMachine, PlainLiteral, literal_of, latch_of, machine_of}
 use Rattle.source_machine.specs.Members.{IsIn}
 use Rattle.source_machine.specs.Fitting.{Fits, LiteralFits, size_of}
-use Rattle.source_machine.specs.Runs.{Agrees, bit_in, literal_value, driven_nets, output_bits, next_state}
+use Rattle.source_machine.specs.Runs.{Agrees, bit_in, literal_value, output_bits, next_state}
 use Rattle.source_machine.specs.Grounding.{row_nets, used_nets, IsWellFounded}
 use Rattle.graph_build.specs.Built.{AreWithin, IsWithinGraph, IsGraphOf}
-use Rattle.graph_build.specs.Literals.{node_literal, net_value, AllWithin, HasLiterals}
+use Rattle.graph_build.specs.Literals.{node_literal, HasLiterals}
 use Rattle.graph_build.specs.Orders.{equation_nets, IsBuilt, IsBuildOrder}
 use Rattle.graph_build.proofs.LiteralValues.{node_literal_value, node_literal_within}
 use Rattle.graph_build.proofs.Members.{same_or_not, IsIn-append, IsIn-left, IsIn-right, IsIn-map, IsIn-at, place_of}

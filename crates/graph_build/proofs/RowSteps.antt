@@ -1,5 +1,5 @@
 -- One literal more of a row, and one row more of an equation.
-use Rattle.std.proofs.Common.{◌≡◌, ℕ, suc, ◌+◌, ◌<◌, ◌≤◌, List, [], ◌∷◌, Bool, true, false, not, if◌then◌else◌, ◌&&◌, ◌||◌, All, length, map, drop, get_or, drop-cons, add-one, refl, sym, ◌∙◌, ap, subst, arith}
+use Rattle.std.proofs.Common.{◌≡◌, ℕ, suc, ◌+◌, ◌<◌, List, [], ◌∷◌, Bool, true, not, if◌then◌else◌, ◌&&◌, ◌||◌, All, length, map, drop, get_or, drop-cons, add-one, refl, sym, ◌∙◌, ap, arith}
 use Rattle.std.specs.List.{list_any}
 use Rattle.std.proofs.lemmas.List.{length-map}
 use Rattle.std.proofs.lemmas.List.Elements.{All-head, All-tail}
@@ -10,7 +10,7 @@ use Rattle.aig_core.specs.Values.{value_of}
 use Rattle.source_machine.specs.Machines.{literal_of}
 use Rattle.source_machine.specs.Fitting.{size_of_rows}
 use Rattle.source_machine.specs.Runs.{row_value, literal_value}
-use Rattle.graph_build.specs.Literals.{literal_at, node_literal, net_value, AllWithin, Grew}
+use Rattle.graph_build.specs.Literals.{literal_at, node_literal, net_value, AllWithin}
 use Rattle.graph_build.specs.Equations.{IsLiteralOf, IsRowSoFar, AreRowsSoFar}
 use Rattle.graph_build.proofs.Growth.{grew_both, grew_none, grew_more}
 use Rattle.graph_build.proofs.LiteralValues.{node_literal_value, node_literal_within, and_assoc, or_assoc}

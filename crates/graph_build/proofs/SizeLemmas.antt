@@ -1,5 +1,5 @@
 -- The equations of an order need at most as many conjunctions as the machine has rows and literals.
-use Rattle.std.proofs.Common.{◌≡◌, ◌≢◌, ℕ, zero, suc, ◌+◌, ◌≤◌, ◌<◌, ◌⊎◌, inl, inr, List, [], ◌∷◌, length, map, get_or, set, ◌==◌, if◌then◌else◌, refl, sym, ◌∙◌, ap, subst, arith, eq-eqb}
+use Rattle.std.proofs.Common.{◌≡◌, ◌≢◌, ℕ, zero, suc, ◌+◌, ◌≤◌, ◌<◌, inl, inr, List, [], ◌∷◌, length, map, get_or, set, if◌then◌else◌, refl, ◌∙◌, ap, subst, arith, eq-eqb}
 use Rattle.std.proofs.lemmas.List.{length-set, get_or-set_other, length-map}
 use Rattle.source_machine.specs.Machines.{PlainEquation, PlainMachine}
 use Rattle.source_machine.specs.Members.{IsIn, times_in}

@@ -1,4 +1,4 @@
-use Rattle.std.proofs.Common.{◌≡◌, ◌≤◌, ◌<◌, ◌+◌, All, List, Bool, length, map, get_or, set, sym, ◌∙◌, ap, subst, arith}
+use Rattle.std.proofs.Common.{◌≤◌, ◌<◌, ◌+◌, All, length, map, get_or, set, sym, ◌∙◌, ap, subst, arith}
 use Rattle.source_machine.specs.declared.machines.Equation.{Equation}
 use Rattle.source_machine.specs.Machines.{machine_of, equation_of, literal_of}
 use Rattle.source_machine.specs.Fitting.{size_of_rows}

@@ -1,9 +1,7 @@
-use Rattle.std.proofs.Common.{◌<◌, All, List, length, map, sym, ◌∙◌, ap, subst}
-use Rattle.pulse_ids.specs.Ids.{Lit, NodeLit}
-use Rattle.aig_core.specs.Tidy.{IsKept}
+use Rattle.std.proofs.Common.{◌<◌, All, length, map, sym, ◌∙◌, ap, subst}
+use Rattle.pulse_ids.specs.Ids.{Lit}
 use Rattle.source_machine.specs.declared.machines.Latch.{Latch}
 use Rattle.source_machine.specs.Machines.{machine_of, literal_of}
-use Rattle.graph_build.specs.Built.{PlainBuilt, IsGraphOf}
 use Rattle.graph_build.specs.Literals.{node_literal}
 use Rattle.graph_build.specs.Orders.{IsBuildOrder}
 use Rattle.graph_build.proofs.Results.{outputs_low, nexts_low, all_within, graph_of}

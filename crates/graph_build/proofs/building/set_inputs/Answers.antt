@@ -1,4 +1,4 @@
-use Rattle.std.proofs.Common.{◌<◌, length, set, sym, ◌∙◌, ap, subst, arith}
+use Rattle.std.proofs.Common.{◌<◌, length, set, ◌∙◌, ap, arith}
 use Rattle.std.proofs.lemmas.List.{length-map}
 use Rattle.pulse_ids.specs.Ids.{NetId, NodeLit}
 use Rattle.graph_build.proofs.NetLiterals.{input_numbered, input_goes_on}

@@ -1,4 +1,4 @@
-use Rattle.std.proofs.Common.{◌<◌, length, map, set, sym, ◌∙◌, ap, subst, arith}
+use Rattle.std.proofs.Common.{◌<◌, length, map, set, ◌∙◌, ap, arith}
 use Rattle.std.proofs.lemmas.List.{length-map}
 use Rattle.pulse_ids.specs.Ids.{NodeLit}
 use Rattle.source_machine.specs.Machines.{latch_of, machine_of}

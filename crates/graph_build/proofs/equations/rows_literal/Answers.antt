@@ -1,4 +1,4 @@
-use Rattle.std.proofs.Common.{All, ◌<◌, List, Bool, length, map, sym, subst}
+use Rattle.std.proofs.Common.{All, ◌<◌, length, map, sym, subst}
 use Rattle.source_machine.specs.Machines.{literal_of}
 use Rattle.source_machine.specs.Runs.{row_value}
 use Rattle.graph_build.specs.Literals.{net_value}

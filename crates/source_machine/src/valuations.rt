@@ -1,6 +1,6 @@
 //! The bits of all nets of a machine in one cycle.
 
-ghost use Rattle.std.specs.Prelude.{◌≡◌, ◌<◌, ◌+◌, ℕ, [], List, Bool, map, length, replicate, false, IfOk};
+ghost use Rattle.std.specs.Prelude.{◌≡◌, ◌<◌, ◌+◌, ℕ, [], List, Bool, map, length, replicate, false, not, if◌then◌else◌, IfOk};
 ghost use Rattle.source_machine.specs.Machines.{literal_of, equation_of, machine_of};
 ghost use Rattle.source_machine.specs.Members.{IsIn};
 ghost use Rattle.std.specs.List.{list_any, list_all};
@@ -76,16 +76,19 @@ fn is_met(bits: &[bool], rows: &[Cover]) -> bool
     rows.iter().any(|row| row_bit(bits, row))
 }
 
+/// `on` where some row is met, and the opposite elsewhere.
+fn value_if(met: bool, on: bool) -> bool
+    ensures { result ≡ if met then on else not on }
+{
+    if met { on } else { !on }
+}
+
 impl Equation {
     /// The value of the equation's net.
     fn bit(&self, bits: &[bool]) -> bool
         ensures { result ≡ equation_value (bit_in bits.now) (equation_of self.now) }
     {
-        if is_met(bits, self.rows.as_slice()) {
-            self.on
-        } else {
-            !self.on
-        }
+        value_if(is_met(bits, self.rows.as_slice()), self.on)
     }
 }
 

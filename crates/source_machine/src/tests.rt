@@ -142,6 +142,13 @@ fn machines_are_accepted_or_refused(rt: HostRuntime) -> Result<(), Fail> {
         Case {
             inputs: &[],
             latches: &[],
+            pairs: &[(1, 2), (2, 1)],
+            output: 1,
+            refusal: Some(Grounding::Cycle(one)),
+        },
+        Case {
+            inputs: &[],
+            latches: &[],
             pairs: &[(4, 3), (3, 4), (2, 4)],
             output: 0,
             refusal: Some(Grounding::Cycle(NetId::new(2))),

@@ -12,6 +12,7 @@ pub mod Members
 pub mod NetLiterals
 pub mod Results
 pub mod RowSteps
+pub mod Shown
 pub mod SizeLemmas
 pub mod Tabled
 pub mod Visits

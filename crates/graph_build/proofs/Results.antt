@@ -115,8 +115,9 @@ module _ (raw : RawMachine) (fits : Fits (machine_of raw)) where
       one_init_each = ap (λ l. length l) ei ∙ length-map raw.latches.items (λ (latch : Latch). latch.init) ∙ sym (length-map raw.latches.items latch_of) ∙ sym has.latches;
     }
 
-    pub graph_of : (outputs nexts : List NodeLit) (inits : List Bool) → length graph.pairs ≤ size_of machine → outputs ≡ map (λ (literal : Lit). node_literal literals (literal_of literal)) raw.outputs.items → nexts ≡ map (λ (latch : Latch). node_literal literals (literal_of latch.next)) raw.latches.items → inits ≡ map (λ (latch : Latch). latch.init) raw.latches.items → IsGraphOf machine (record { graph = graph; outputs = outputs; nexts = nexts; inits = inits })
-    graph_of outputs nexts inits small eo en ei = record {
+    pub graph_of : (outputs nexts : List NodeLit) (inits : List Bool) → IsKept graph → length graph.pairs ≤ size_of machine → outputs ≡ map (λ (literal : Lit). node_literal literals (literal_of literal)) raw.outputs.items → nexts ≡ map (λ (latch : Latch). node_literal literals (literal_of latch.next)) raw.latches.items → inits ≡ map (λ (latch : Latch). latch.init) raw.latches.items → IsGraphOf machine (record { graph = graph; outputs = outputs; nexts = nexts; inits = inits })
+    graph_of outputs nexts inits kept small eo en ei = record {
+      within = all_within outputs nexts inits kept eo en ei;
       inputs = has.inputs;
       latches = has.latches;
       one_output_each = ap (λ l. length l) eo ∙ length-map raw.outputs.items (λ (literal : Lit). node_literal literals (literal_of literal)) ∙ sym (length-map raw.outputs.items literal_of);

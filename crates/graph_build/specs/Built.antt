@@ -29,8 +29,9 @@ pub record IsWithinGraph (built : PlainBuilt) : Type 0 where
   pub one_next_each : length built.nexts ≡ built.graph.latches
   pub one_init_each : length built.inits ≡ built.graph.latches
 
--- the graph computes what the machine computes: for each state and vector the literals have the values that the machine's have in the valuation that agrees
+-- the graph is tidy and computes what the machine computes: for each state and vector the literals have the values that the machine's have in the valuation that agrees
 pub record IsGraphOf (machine : PlainMachine) (built : PlainBuilt) : Type 0 where
+  pub within : IsWithinGraph built
   pub inputs : built.graph.inputs ≡ length machine.inputs
   pub latches : built.graph.latches ≡ length machine.latches
   pub one_output_each : length built.outputs ≡ length machine.outputs

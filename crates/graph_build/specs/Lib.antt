@@ -1,5 +1,6 @@
 pub mod Built
 pub mod Equations
+pub mod Examples
 pub mod Literals
 pub mod Orders
 pub mod Queues

@@ -4,6 +4,7 @@
 mod building;
 mod built;
 mod equations;
+mod laws;
 mod literals;
 #[cfg(test)]
 mod order_tests;
@@ -14,3 +15,4 @@ mod tests;
 
 pub use building::build;
 pub use built::Built;
+pub use laws::examples;

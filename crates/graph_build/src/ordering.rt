@@ -5,14 +5,13 @@ ghost use Rattle.source_machine.specs.Machines.{machine_of};
 ghost use Rattle.source_machine.specs.Members.{IsIn};
 ghost use Rattle.source_machine.specs.Fitting.{Fits};
 ghost use Rattle.source_machine.specs.Grounding.{IsWellFounded};
-ghost use Rattle.source_machine.specs.Stages.{IsReached};
 ghost use Rattle.source_machine.specs.Steps.{TablesFit, IsReader};
 ghost use Rattle.graph_build.specs.Orders.{IsBuildOrder};
 ghost use Rattle.graph_build.specs.Searches.{Search, IsQueued, IsPutLast, Visit, SearchFits, Settles, AllSettle, Steps, IsNext, IsComplete, MarksExactly};
 
 use crate::queues::Queue;
 use pulse_ids::NoMemory;
-use source_machine::{RawMachine, Tables};
+use source_machine::{RawMachine, Tables, reach};
 use std::alloc::Global;
 use std::marker::Model;
 
@@ -30,19 +29,6 @@ impl Model for Progress {
     ghost Value = { Search };
 
     ghost view = { λ progress. record { known = progress.known.items; places = progress.places.items; waiting = progress.queue; order = progress.order.items } };
-}
-
-/// The first place at or after this one whose net isn't known, or the number of nets.
-fn reach(nets: &[u32], place: usize, known: &[bool]) -> usize
-    requires within { place ≤ length nets.now }
-    requires fit { (net : ℕ) → IsIn net nets.now → net < length known.now }
-    ensures { IsReached nets.now known.now place result }
-{
-    let mut at = place;
-    while at < nets.len() && known[nets[at] as usize] {
-        at += 1;
-    }
-    at
 }
 
 /// So many bits, of which those of these nets are 1.

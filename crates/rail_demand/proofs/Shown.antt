@@ -10,9 +10,10 @@ use Rattle.aig_core.specs.declared.nodes.Node.TheVariants.{Latch, And}
 use Rattle.aig_core.specs.Examples.{half_adder}
 use Rattle.aig_core.specs.Folds.{positive, complement, zero_literal, one_literal}
 use Rattle.aig_core.specs.Graphs.{nodes_of}
+use Rattle.graph_build.specs.Examples.{adder_built}
 use Rattle.rail_demand.specs.Rails.{rail_sign, literal_rail}
 use Rattle.rail_demand.specs.Demands.{nodes_in, is_needed, Needed, of_output, of_user, NeedsAtOnce, of_low, of_high, of_next, IsDemand}
-use Rattle.rail_demand.specs.Examples.{adder_built, adder_rails, chain_built, chain_rails, one_built, one_rails, RailsAreJudged}
+use Rattle.rail_demand.specs.Examples.{adder_rails, chain_built, chain_rails, one_built, one_rails, RailsAreJudged}
 use Rattle.rail_demand.proofs.Finding.{IsFound}
 use Rattle.rail_demand.proofs.Least.{Needed-least}
 

@@ -2,17 +2,12 @@
 use Rattle.std.specs.Prelude.{[], ◌∷◌, false, true}
 use Rattle.cell_netlist.specs.declared.kinds.Ask.{Ask}
 use Rattle.cell_netlist.specs.declared.kinds.Ask.TheVariants.{Pos, Neg, Both}
-use Rattle.aig_core.specs.Examples.{half_adder}
 use Rattle.aig_core.specs.Folds.{positive, complement, zero_literal, one_literal}
 use Rattle.graph_build.specs.Built.{PlainBuilt}
+use Rattle.graph_build.specs.Examples.{adder_built}
 use Rattle.rail_demand.specs.Demands.{PlainDemand, IsDemand}
 
--- the outputs are the sum, which is node 5, and the carry, which is node 3
-abbrev pub adder_built : PlainBuilt
-adder_built =
-    record { graph = half_adder; outputs = positive 5 ∷ positive 3 ∷ []; nexts = []; inits = [] }
-
--- both rails of the inputs and of the carry, the negative rail of node 4, and the positive rail of the sum
+-- of the half adder both rails of the inputs and of the carry, the negative rail of node 4, and the positive rail of the sum
 abbrev pub adder_rails : PlainDemand
 adder_rails =
     record { positive = false ∷ true ∷ true ∷ true ∷ false ∷ true ∷ []; negative = false ∷ true ∷ true ∷ true ∷ true ∷ false ∷ [] }

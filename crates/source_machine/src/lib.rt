@@ -22,6 +22,7 @@ pub use covers::Cover;
 pub use founding::{Machine, ground};
 pub use laws::{examples, one_run, one_verdict};
 pub use machines::{Equation, Latch, RawMachine};
+pub use ordering::reach;
 pub use places::Place;
 pub use readers::{Readers, Tables};
 pub use valuations::{Values, step};

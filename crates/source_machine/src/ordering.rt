@@ -26,8 +26,9 @@ impl Model for Progress {
     ghost view = { λ progress. record { known = progress.known.items; places = progress.places.items; order = progress.order.items } };
 }
 
-/// The first place at or after this one whose net isn't known, or the number of nets.
-fn reach(nets: &[u32], place: usize, known: &[bool]) -> usize
+/// The first place at or after this one whose net isn't known, or the number of nets. The place is
+/// at most that number, and there is a bit for each net. It looks at each place that it passes once.
+pub fn reach(nets: &[u32], place: usize, known: &[bool]) -> usize
     requires within { place ≤ length nets.now }
     requires fit { (net : ℕ) → IsIn net nets.now → net < length known.now }
     ensures { IsReached nets.now known.now place result }

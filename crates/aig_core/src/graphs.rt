@@ -20,7 +20,7 @@ use std::marker::Model;
 /// An and-inverter graph. Node 0 is the constant 0, then come the inputs, the latches and the
 /// conjunctions, each conjunction after the nodes of its two literals. No two conjunctions hold the
 /// same pair of literals, and none has a constant in its pair, or one node twice.
-#[derive(Drop)]
+#[derive(Debug, Drop)]
 pub struct Graph {
     inputs: u32,
     latches: u32,

@@ -10,7 +10,7 @@ use std::marker::Model;
 
 /// The graph of a machine, with a literal for each output and for each latch's next state, and the
 /// latches' first bits. Input `k` of the graph is input port `k`, and latch `k` is latch `k`.
-#[derive(Drop)]
+#[derive(Debug, Drop)]
 pub struct Built {
     pub(crate) graph: Graph,
     pub(crate) outputs: Vec<NodeLit>,

@@ -7,7 +7,7 @@ ghost use Rattle.cell_netlist.specs.Sound.{IsSound};
 
 use crate::World;
 use cell_netlist::{Cell, Netlist, Phase, Rail, Role, SoundNet, sound_tests};
-use pulse_ids::{CellId, Ident, NoMemory, Sign, WireId};
+use pulse_ids::{CellId, Ident, NoMemory, RailId, Sign, WireId};
 use std::alloc::Global;
 use std::test::Fail;
 
@@ -49,6 +49,7 @@ fn last_arrival(alloc: Global) -> Result<Netlist, NoMemory>
 fn first_arrival(alloc: Global) -> Result<Netlist, NoMemory>
     ensures sound { IfOk result (λ net. IsSound net) }
     ensures inputs { IfOk result (λ net. net.inputs ≡ 2) }
+    ensures rails { IfOk result (λ net. 0 < length net.output_rails) }
 {
     let mut net = Netlist::new(alloc, 2, 1);
     net.add_input(rail(0, 0))?;
@@ -109,6 +110,23 @@ fn relaxes(world: &mut World<'_>) -> bool
     true
 }
 
+/// Delivers the first pending pulse, if there is one, and answers its wire where the row showed it
+/// first.
+fn first_delivered(world: &mut World<'_>) -> Option<WireId>
+    ensures { world.new.net ≡ world.old.net }
+{
+    if world.pending_len() == 0 {
+        return None;
+    }
+    let shown = world.pending_at(0);
+    let delivered = world.deliver_at(0);
+    if delivered == shown {
+        Some(delivered)
+    } else {
+        None
+    }
+}
+
 #[test]
 fn an_la_pulses_after_both_inputs(rt: HostRuntime) -> Result<(), Fail> {
     let net = adopted(rt.alloc(), last_arrival(rt.alloc())?)?;
@@ -139,10 +157,13 @@ fn an_fa_pulses_after_one_input(rt: HostRuntime) -> Result<(), Fail> {
     let net = adopted(rt.alloc(), first_arrival(rt.alloc())?)?;
     let mut world = World::new(rt.alloc(), &net)?;
     world.begin_excite(&[false, true]);
-    for number in [1, 2] {
-        assert!(rt; world.deliver(wire(number)));
-    }
+    assert!(rt; first_delivered(&mut world) == Some(wire(1)));
+    assert!(rt; !world.pulsed(RailId::new(0)));
+    assert!(rt; first_delivered(&mut world) == Some(wire(2)));
+    assert!(rt; world.pulsed(RailId::new(0)));
+    assert!(rt; first_delivered(&mut world).is_none());
     assert!(rt; relaxes(&mut world));
+    assert!(rt; !world.pulsed(RailId::new(0)));
     assert!(rt; world.deliver(wire(0)));
     assert_eq!(rt; world.pending_len(), 0);
     assert!(rt; world.at_rest());

@@ -9,7 +9,7 @@ use std::alloc::Global;
 use std::marker::Model;
 
 /// For each node of a graph and each sign, whether that rail is needed.
-#[derive(Drop)]
+#[derive(Debug, Drop)]
 pub struct Demand {
     positive: Vec<bool>,
     negative: Vec<bool>,

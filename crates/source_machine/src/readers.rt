@@ -10,7 +10,7 @@ use std::marker::Model;
 
 /// For each net the equations that read it, as lists that are linked by the places of their items
 /// plus 1, and end in 0.
-#[derive(Drop)]
+#[derive(Debug, Drop)]
 pub struct Readers {
     heads: Vec<usize>,
     owners: Vec<usize>,
@@ -102,7 +102,7 @@ impl Readers {
 
 /// What the search for an order reads: the nets that are known at first, the net of each equation
 /// and the nets that it reads, all below the count, and the readers of each net.
-#[derive(Drop)]
+#[derive(Debug, Drop)]
 pub struct Tables {
     /// How many nets there are, with net 0.
     pub count: usize,

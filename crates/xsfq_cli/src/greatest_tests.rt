@@ -1,4 +1,5 @@
-//! Machines of the greatest size, made by a loop: chains of equations written from last to first.
+//! Machines of the greatest size, made by a loop: chains and fans of equations, written from last to
+//! first.
 
 ghost use Rattle.std.specs.Prelude.{◌≤◌};
 
@@ -51,10 +52,20 @@ fn chain(alloc: Global, links: u32, gate: Option<u32>) -> Result<Vec<Equation>, 
     Ok(equations)
 }
 
-/// The machine of a chain, with two inputs and its last net as the output.
-fn raw_machine(alloc: Global, links: u32, gate: Option<u32>) -> Result<RawMachine, NoMemory>
-    requires { links ≤ 524287 }
+/// The equations of the last nets, each of which is the conjunction of the two inputs. The last one
+/// stands first.
+fn fan(alloc: Global, blades: u32) -> Result<Vec<Equation>, NoMemory>
+    requires { blades ≤ 524287 }
 {
+    let mut equations = Vec::with_capacity(alloc, blades as usize)?;
+    for place in 0..blades {
+        equations.push(link(alloc, NetId::new(NETS - place), 1, Some(2))?)?;
+    }
+    Ok(equations)
+}
+
+/// The machine of these equations, with two inputs and its last net as the output.
+fn raw_machine(alloc: Global, equations: Vec<Equation>) -> Result<RawMachine, NoMemory> {
     let mut input_names = Vec::new(alloc);
     input_names.push(None)?;
     input_names.push(None)?;
@@ -64,17 +75,16 @@ fn raw_machine(alloc: Global, links: u32, gate: Option<u32>) -> Result<RawMachin
         nets: NETS,
         inputs: Vec::from_slice(alloc, &[NetId::new(1), NetId::new(2)])?,
         latches: Vec::new(alloc),
-        equations: chain(alloc, links, gate)?,
+        equations,
         outputs: Vec::from_slice(alloc, &[Lit::new(NetId::new(NETS), false)])?,
         input_names,
         output_names,
     })
 }
 
-fn machine(alloc: Global, links: u32, gate: Option<u32>) -> Result<Machine, Grounding>
-    requires { links ≤ 524287 }
-{
-    let raw = raw_machine(alloc, links, gate)?;
+/// The machine of these equations, if it is well founded.
+fn machine(alloc: Global, equations: Vec<Equation>) -> Result<Machine, Grounding> {
+    let raw = raw_machine(alloc, equations)?;
     if !raw.fits() {
         return Err(Grounding::NoMemory);
     }
@@ -94,7 +104,7 @@ fn last_bit(alloc: Global, machine: &Machine, inputs: &[bool]) -> Result<Option<
 
 #[test]
 fn the_greatest_chain_is_accepted_and_stepped(rt: HostRuntime) -> Result<(), Fail> {
-    let machine = machine(rt.alloc(), COPIES, None)?;
+    let machine = machine(rt.alloc(), chain(rt.alloc(), COPIES, None)?)?;
     for bit in [true, false, true] {
         assert!(rt; last_bit(rt.alloc(), &machine, &[bit, false])? == Some(bit));
     }
@@ -103,7 +113,7 @@ fn the_greatest_chain_is_accepted_and_stepped(rt: HostRuntime) -> Result<(), Fai
 
 #[test]
 fn the_greatest_graph_is_built_and_demanded(rt: HostRuntime) -> Result<(), Fail> {
-    let machine = machine(rt.alloc(), CONJUNCTIONS, Some(2))?;
+    let machine = machine(rt.alloc(), chain(rt.alloc(), CONJUNCTIONS, Some(2))?)?;
     let built = build(rt.alloc(), &machine)?;
     assert_eq!(rt; built.graph().len(), 3 + CONJUNCTIONS);
     assert_eq!(rt; built.outputs(), 1);
@@ -112,6 +122,20 @@ fn the_greatest_graph_is_built_and_demanded(rt: HostRuntime) -> Result<(), Fail>
         let node = NodeId::new(number);
         assert!(rt; !needed.needs(node, Sign::Pos));
         assert!(rt; needed.needs(node, Sign::Neg) == (number != 0));
+    }
+    Ok(())
+}
+
+#[test]
+fn the_widest_machine_is_built_and_demanded(rt: HostRuntime) -> Result<(), Fail> {
+    let machine = machine(rt.alloc(), fan(rt.alloc(), CONJUNCTIONS)?)?;
+    let built = build(rt.alloc(), &machine)?;
+    assert_eq!(rt; built.graph().len(), 4);
+    let needed = demand(rt.alloc(), &built, Ask::Pos)?;
+    for number in 0..built.graph().len() {
+        let node = NodeId::new(number);
+        assert!(rt; !needed.needs(node, Sign::Neg));
+        assert!(rt; needed.needs(node, Sign::Pos) == (number != 0));
     }
     Ok(())
 }

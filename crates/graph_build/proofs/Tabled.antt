@@ -1,14 +1,15 @@
 -- The search over the tables of a machine.
-use Rattle.std.proofs.Common.{◌≡◌, ℕ, zero, suc, ◌+◌, ◌-◌, ◌<◌, ◌⊎◌, inl, inr, List, [], length, map, get_or, replicate, Bool, refl, sym, ◌∙◌, ap, subst, arith}
+use Rattle.std.proofs.Common.{◌≡◌, ℕ, zero, suc, ◌+◌, ◌-◌, ◌<◌, ◌⊎◌, inl, inr, List, [], length, map, get_or, replicate, refl, sym, ◌∙◌, ap, subst, arith}
 use Rattle.std.specs.Prelude.{slice_index}
 use Rattle.std.proofs.lemmas.List.{length-replicate}
 use Rattle.std.specs.declared.option.Option.{Option}
 use Rattle.std.specs.declared.option.Option.TheVariants.{None, Some}
 use Rattle.source_machine.specs.declared.readers.Tables.{Tables}
 use Rattle.source_machine.specs.Members.{IsIn}
+use Rattle.source_machine.specs.Frontiers.{PlainFrontier, IsAtStart}
 use Rattle.source_machine.specs.Stages.{Linked, here, later, unknown_in}
 use Rattle.source_machine.specs.Steps.{TablesFit, IsReader}
-use Rattle.graph_build.specs.Searches.{Search, Visit, MarksExactly, has_value, has_turn, lacks_net, SearchFits, Settles, AllSettle, Steps, IsBuiltNext, IsNext, IsComplete}
+use Rattle.graph_build.specs.Searches.{Search, Visit, has_value, has_turn, lacks_net, SearchFits, Settles, AllSettle, Steps, IsBuiltNext, IsNext, IsComplete}
 use Rattle.graph_build.proofs.Members.{length_mapped, same_or_not, IsIn-at}
 use Rattle.graph_build.proofs.Visits.{visit_keeps, visit_settles, visit_others, visit_known}
 use Rattle.graph_build.proofs.Growing.{lacks_none, next_keeps, next_fewer, next_net, next_others}
@@ -21,15 +22,15 @@ all_zero zero net = refl
 all_zero (suc count) zero = refl
 all_zero (suc count) (suc net) = all_zero count net
 
-pub begins : (tables : Tables) (known : List Bool) → MarksExactly tables.count tables.starts.items known → SearchFits tables (record { known = known; places = replicate (length tables.reads.items) 0; waiting = record { nets = []; owners = replicate tables.count 0 }; order = [] })
-begins tables known marks = record {
-  width = marks.width;
-  wide = length-replicate (length tables.reads.items) 0 ∙ sym (length_mapped (λ nets. nets.items) tables.reads.items);
+pub begins : (tables : Tables) (frontier : PlainFrontier) → IsAtStart tables.count (length tables.reads.items) tables.starts.items frontier → SearchFits tables (record { known = frontier.known; places = frontier.places; waiting = record { nets = []; owners = replicate tables.count 0 }; order = [] })
+begins tables frontier start = record {
+  width = start.width;
+  wide = ap (λ l. length l) start.places ∙ length-replicate (length tables.reads.items) 0 ∙ sym (length_mapped (λ nets. nets.items) tables.reads.items);
   owned = length-replicate tables.count 0;
-  within = λ equation lt. omega (arith, all_zero (length tables.reads.items) equation);
-  passed = λ equation lt place low. absurd (omega (arith, low, all_zero (length tables.reads.items) equation));
-  knows = λ net k. inl (marks.only net k);
-  started = marks.marked;
+  within = λ equation lt. omega (arith, at_first equation);
+  passed = λ equation lt place low. absurd (omega (arith, low, at_first equation));
+  knows = λ net k. inl (start.only net k);
+  started = start.marked;
   valued = λ equation i. absurd i;
   turns = λ net i. absurd i;
   in_range = λ equation i. absurd i;
@@ -37,6 +38,10 @@ begins tables known marks = record {
   ordered = λ place lt used i. absurd (omega (arith, lt));
   lowest = λ place other lt inside out all. absurd (omega (arith, lt));
 }
+  where
+    at_first : (equation : ℕ) → slice_index frontier.places equation ≡ 0
+    at_first equation =
+        ap (λ l. slice_index l equation) start.places ∙ all_zero (length tables.reads.items) equation
 
 pub steps_of : (tables : Tables) (before after : Search) (equation : ℕ) (nets : List ℕ) (target : ℕ) → TablesFit tables → SearchFits tables before → equation < length tables.reads.items → nets ≡ get_or (map (λ nets. nets.items) tables.reads.items) equation [] → target ≡ slice_index tables.targets.items equation → Visit nets target equation before after → Steps tables before after × Settles tables after equation
 steps_of tables before after equation nets target fit search lt en et v = (

@@ -1,12 +1,36 @@
 -- What one visit keeps and settles.
-use Rattle.std.proofs.Common.{◌≡◌, ◌≢◌, ℕ, ◌≤◌, ◌<◌, ◌⊎◌, inl, inr, List, [], length, get_or, set, true, false, refl, sym, ◌∙◌, ap, subst, arith}
+use Rattle.std.proofs.Common.{◌≡◌, ◌≢◌, ℕ, ◌≤◌, ◌<◌, ◌⊎◌, inl, inr, List, [], length, get_or, set, Bool, true, false, refl, sym, ◌∙◌, ap, subst, arith}
 use Rattle.std.specs.Prelude.{slice_index}
 use Rattle.std.proofs.lemmas.List.{get_or-set_same, get_or-set_other, length-set}
 use Rattle.source_machine.specs.Members.{IsIn}
-use Rattle.source_machine.specs.Stages.{IsReached, AreTables}
+use Rattle.source_machine.specs.Frontiers.{PlainFrontier, IsReached, GoesOn}
+use Rattle.source_machine.specs.Stages.{AreTables}
 use Rattle.graph_build.specs.Queues.{Waiting, WaitsMore}
 use Rattle.graph_build.specs.Searches.{Search, Visit, skipped, stopped, queued, IsSettled, has_value, has_turn, lacks_net, HasTurn, IsSearch}
 use Rattle.graph_build.proofs.Members.{same_or_not, lower_or_not}
+
+-- the frontier of a search
+abbrev pub frontier_of : Search → PlainFrontier
+frontier_of search = record { known = search.known; places = search.places }
+
+-- the equation has passed all its nets, and its net waits for its turn
+pub visit_queued : (nets : List ℕ) (target equation : ℕ) (before : Search) (gone : PlainFrontier) (is_past : Bool) (waiting : Waiting) → get_or before.known target false ≡ false → GoesOn nets equation (frontier_of before) gone is_past → is_past ≡ true → WaitsMore before.waiting target equation waiting → Visit nets target equation before (record { known = gone.known; places = gone.places; waiting = waiting; order = before.order })
+visit_queued nets target equation before gone is_past waiting unknown goes e more =
+    queued goes.place waiting unknown goes.reached (goes.past.0 e) more (ap (λ (f : PlainFrontier). record { known = f.known; places = f.places; waiting = waiting; order = before.order }) goes.after_is)
+
+-- the equation stops at a net
+pub visit_stopped : (nets : List ℕ) (target equation : ℕ) (before : Search) (gone : PlainFrontier) (is_past : Bool) → GoesOn nets equation (frontier_of before) gone is_past → is_past ≡ false → Visit nets target equation before (record { known = gone.known; places = gone.places; waiting = before.waiting; order = before.order })
+visit_stopped nets target equation before gone is_past goes e =
+    stopped goes.place goes.reached low (ap (λ (f : PlainFrontier). record { known = f.known; places = f.places; waiting = before.waiting; order = before.order }) goes.after_is)
+  where
+    apart : goes.place ≡ length nets → ⊥
+    apart p = let t : is_past ≡ true = goes.past.1 p in absurd cc
+
+    low : goes.place < length nets
+    low = elim (lower_or_not goes.place (length nets)) [
+      | inl l ↦ l
+      | inr high ↦ absurd (apart (omega (arith, high, goes.reached.high)))
+    ]
 
 -- the turn of a net whose equation is this
 pub turn_of : (targets : List ℕ) (reads : List (List ℕ)) (search : Search) (net owner : ℕ) → slice_index search.waiting.owners net ≡ owner → get_or search.known net false ≡ false → owner < length reads → slice_index targets owner ≡ net → slice_index search.places owner ≡ length (get_or reads owner []) → HasTurn targets reads search net

@@ -4,7 +4,7 @@ use Rattle.std.specs.declared.option.Option.{Option}
 use Rattle.std.specs.declared.option.Option.TheVariants.{None, Some}
 use Rattle.source_machine.specs.Members.{IsIn, times_in}
 use Rattle.source_machine.specs.Orders.{IsKnown, IsOrdered}
-use Rattle.source_machine.specs.Stages.{IsReached}
+use Rattle.source_machine.specs.Frontiers.{IsReached}
 use Rattle.source_machine.specs.declared.readers.Tables.{Tables}
 use Rattle.graph_build.specs.Queues.{Waiting, WaitsMore, WaitsLess}
 
@@ -14,12 +14,6 @@ pub record Search : Type 0 where
   pub places : List ℕ
   pub waiting : Waiting
   pub order : List ℕ
-
--- exactly these nets have the bit 1
-pub record MarksExactly (count : ℕ) (nets : List ℕ) (bits : List Bool) : Type 0 where
-  pub width : length bits ≡ count
-  pub marked : (net : ℕ) → IsIn net nets → get_or bits net false ≡ true
-  pub only : (net : ℕ) → get_or bits net false ≡ true → IsIn net nets
 
 -- this net waits too, with this equation
 pub record IsQueued (before : Search) (net equation : ℕ) (after : Search) : Type 0 where

@@ -7,20 +7,19 @@ ghost use Rattle.source_machine.specs.Fitting.{Fits};
 ghost use Rattle.source_machine.specs.Grounding.{IsWellFounded};
 ghost use Rattle.source_machine.specs.Steps.{TablesFit, IsReader};
 ghost use Rattle.graph_build.specs.Orders.{IsBuildOrder};
-ghost use Rattle.graph_build.specs.Searches.{Search, IsQueued, IsPutLast, Visit, SearchFits, Settles, AllSettle, Steps, IsNext, IsComplete, MarksExactly};
+ghost use Rattle.graph_build.specs.Searches.{Search, IsQueued, IsPutLast, Visit, SearchFits, Settles, AllSettle, Steps, IsNext, IsComplete};
 
 use crate::queues::Queue;
 use pulse_ids::NoMemory;
-use source_machine::{RawMachine, Tables, reach};
+use source_machine::{Frontier, RawMachine, Tables};
 use std::alloc::Global;
 use std::marker::Model;
 
-/// What is built so far: the bits of the nets that have been built, how far each equation's nets
-/// have been, the nets that can be built next, and the equations in order.
+/// What is built so far: the nets that have been built and how far each equation's nets have been,
+/// the nets that can be built next, and the equations in order.
 #[derive(Drop)]
 struct Progress {
-    known: Vec<bool>,
-    places: Vec<usize>,
+    frontier: Frontier,
     queue: Queue,
     order: Vec<usize>,
 }
@@ -28,19 +27,7 @@ struct Progress {
 impl Model for Progress {
     ghost Value = { Search };
 
-    ghost view = { λ progress. record { known = progress.known.items; places = progress.places.items; waiting = progress.queue; order = progress.order.items } };
-}
-
-/// So many bits, of which those of these nets are 1.
-fn marked_bits(alloc: Global, count: usize, nets: &[u32]) -> Result<Vec<bool>, NoMemory>
-    requires { (net : ℕ) → IsIn net nets.now → net < count }
-    ensures { IfOk result (λ bits. MarksExactly count nets.now bits.items) }
-{
-    let mut bits = vec![in alloc; false; count]?;
-    for net in nets {
-        bits[*net as usize] = true;
-    }
-    Ok(bits)
+    ghost view = { λ progress. record { known = progress.frontier.known; places = progress.frontier.places; waiting = progress.queue; order = progress.order.items } };
 }
 
 impl Progress {
@@ -49,13 +36,11 @@ impl Progress {
         requires { (net : ℕ) → IsIn net tables.now.starts.items → net < tables.now.count }
         ensures { IfOk result (λ progress. SearchFits tables.now progress) }
     {
-        let known = marked_bits(alloc, tables.count, tables.starts.as_slice())?;
-        let places = vec![in alloc; 0usize; tables.len()]?;
+        let frontier = Frontier::new(alloc, tables)?;
         let queue = Queue::new(alloc, tables.count)?;
         let order = Vec::with_capacity(alloc, tables.len())?;
         Ok(Progress {
-            known,
-            places,
+            frontier,
             queue,
             order,
         })
@@ -79,12 +64,10 @@ impl Progress {
         requires fit { (net : ℕ) → IsIn net nets.now → net < length self.old.known }
         ensures { OnOk result (Visit nets.now target equation self.old self.new) }
     {
-        if self.known[target as usize] {
+        if self.frontier.knows(target) {
             return Ok(());
         }
-        let place = reach(nets, self.places[equation], &self.known);
-        self.places[equation] = place;
-        if place == nets.len() {
+        if self.frontier.advance(nets, equation) {
             self.wait(target, equation)?;
         }
         Ok(())
@@ -141,7 +124,7 @@ impl Progress {
         requires { net < length self.old.known }
         ensures { OnOk result (IsPutLast self.old net equation self.new) }
     {
-        self.known[net as usize] = true;
+        self.frontier.learn(net);
         self.order.push(equation)?;
         Ok(())
     }

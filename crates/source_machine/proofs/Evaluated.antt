@@ -15,7 +15,7 @@ use Rattle.source_machine.specs.Orders.{start_nets, IsKnown, IsEvaluationOrder}
 use Rattle.source_machine.specs.Evaluating.{IsGiven, IsEvaluated}
 use Rattle.source_machine.proofs.Mapped.{length_mapped}
 use Rattle.source_machine.proofs.Listed.{map-after}
-use Rattle.source_machine.proofs.Spreading.{all_false}
+use Rattle.source_machine.proofs.Starts.{all_false}
 use Rattle.source_machine.proofs.Counting.{same_or_not, is_in, IsIn-append, IsIn-left, IsIn-right, IsIn-map}
 use Rattle.source_machine.proofs.Searches.{IsIn-at, IsIn-behind}
 use Rattle.source_machine.proofs.RowValues.{equation_value-same, same_bits}

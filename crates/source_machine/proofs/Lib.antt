@@ -13,6 +13,7 @@ pub mod Searches
 pub mod Visits
 pub mod Links
 pub mod Stepping
+pub mod Starts
 pub mod Spreading
 pub mod Closures
 pub mod Accepting

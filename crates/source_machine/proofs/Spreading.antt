@@ -4,12 +4,12 @@ use Rattle.std.specs.Prelude.{slice_index}
 use Rattle.std.proofs.lemmas.List.{length-replicate, map-append, take_more}
 use Rattle.source_machine.specs.declared.readers.Tables.{Tables}
 use Rattle.source_machine.specs.Members.{IsIn}
-use Rattle.source_machine.specs.Searching.{MarksAll}
+use Rattle.source_machine.specs.Frontiers.{PlainFrontier, IsAtStart}
 use Rattle.source_machine.specs.Orders.{IsKnown}
 use Rattle.source_machine.specs.Stages.{Stage, unknown_in}
 use Rattle.source_machine.specs.Steps.{TablesFit, StageFits, Settles, Steps, IsReader, IsClosure}
 use Rattle.source_machine.proofs.Mapped.{length_mapped}
-use Rattle.source_machine.proofs.Counting.{is_in, same_or_not, IsIn-from_map}
+use Rattle.source_machine.proofs.Counting.{same_or_not, IsIn-from_map}
 use Rattle.source_machine.proofs.Searches.{IsIn-at}
 
 few_unknown : (bits : List Bool) → unknown_in bits ≤ length bits
@@ -17,35 +17,28 @@ few_unknown [] = omega arith
 few_unknown (true ∷ bits) = omega (arith, few_unknown bits)
 few_unknown (false ∷ bits) = omega (arith, few_unknown bits)
 
-pub all_false : (count net : ℕ) → get_or (replicate count false) net false ≡ false
-all_false zero net = refl
-all_false (suc count) zero = refl
-all_false (suc count) (suc net) = all_false count net
-
 all_zero : (count net : ℕ) → slice_index (replicate count 0) net ≡ 0
 all_zero zero net = refl
 all_zero (suc count) zero = refl
 all_zero (suc count) (suc net) = all_zero count net
 
-pub begins : (tables : Tables) (known : List Bool) → MarksAll (replicate tables.count false) tables.starts.items true known → StageFits tables (record { known = known; places = replicate (length tables.reads.items) 0; order = [] })
-begins tables known marks = record {
-  width = wide;
-  wide = length-replicate (length tables.reads.items) 0 ∙ sym (length_mapped (λ nets. nets.items) tables.reads.items);
-  within = λ equation lt. omega (arith, all_zero (length tables.reads.items) equation);
-  passed = λ equation lt place low. absurd (omega (arith, low, all_zero (length tables.reads.items) equation));
-  knows = λ net k. elim (is_in net tables.starts.items) [ inl i ↦ inl i | inr out ↦ absurd (nothing net k out) ];
-  started = λ net i. marks.marked net i;
+pub begins : (tables : Tables) (frontier : PlainFrontier) → IsAtStart tables.count (length tables.reads.items) tables.starts.items frontier → StageFits tables (record { known = frontier.known; places = frontier.places; order = [] })
+begins tables frontier start = record {
+  width = start.width;
+  wide = ap (λ l. length l) start.places ∙ length-replicate (length tables.reads.items) 0 ∙ sym (length_mapped (λ nets. nets.items) tables.reads.items);
+  within = λ equation lt. omega (arith, at_first equation);
+  passed = λ equation lt place low. absurd (omega (arith, low, at_first equation));
+  knows = λ net k. inl (start.only net k);
+  started = start.marked;
   valued = λ equation i. absurd i;
   ordered = λ place lt used i. absurd (omega (arith, lt));
   in_range = λ equation i. absurd i;
-  few = omega (arith, few_unknown known, wide);
+  few = omega (arith, few_unknown frontier.known, start.width);
 }
   where
-    wide : length known ≡ tables.count
-    wide = marks.width ∙ length-replicate tables.count false
-
-    nothing : (net : ℕ) → get_or known net false ≡ true → (IsIn net tables.starts.items → ⊥) → ⊥
-    nothing net k out = let f : get_or known net false ≡ false = marks.kept net out ∙ all_false tables.count net in cc
+    at_first : (equation : ℕ) → slice_index frontier.places equation ≡ 0
+    at_first equation =
+        ap (λ l. slice_index l equation) start.places ∙ all_zero (length tables.reads.items) equation
 
 pub settled_more : (tables : Tables) (before after : Stage) (equation : ℕ) → Steps tables before after → ((done : ℕ) → Settles tables after done equation) → ((other : ℕ) → other < equation → Settles tables before 0 other) → (other : ℕ) → other < equation + 1 → Settles tables after 0 other
 settled_more tables before after equation steps here lower other lt = elim (same_or_not other equation) [

@@ -5,7 +5,8 @@ use Rattle.std.proofs.lemmas.List.{get_or-set_same, get_or-set_other, length-set
 use Rattle.std.proofs.Math.Seq.{get_or-append_seam}
 use Rattle.source_machine.specs.Members.{IsIn}
 use Rattle.source_machine.specs.Orders.{IsKnown, IsOrdered}
-use Rattle.source_machine.specs.Stages.{Stage, IsReached, Visit, skipped, waiting, finished, IsSettled, unknown_in, AreTables, IsStage}
+use Rattle.source_machine.specs.Frontiers.{PlainFrontier, IsReached, GoesOn, with_net}
+use Rattle.source_machine.specs.Stages.{Stage, Visit, skipped, waiting, finished, IsSettled, unknown_in, AreTables, IsStage}
 use Rattle.source_machine.proofs.Counting.{same_or_not, lower_or_not, IsIn-left, IsIn-right}
 use Rattle.source_machine.proofs.Searches.{IsIn-behind, place_of}
 
@@ -58,6 +59,29 @@ drop_behind (suc n) (x ∷ xs) ys le = drop_behind n xs ys (omega arith)
 either : (b : Bool) → (b ≡ true) ⊎ (b ≡ false)
 either true = inl refl
 either false = inr refl
+
+-- the frontier of a stage
+abbrev pub frontier_of : Stage → PlainFrontier
+frontier_of stage = record { known = stage.known; places = stage.places }
+
+-- the equation has passed all its nets, and gets a value
+pub visit_finished : (nets : List ℕ) (target equation : ℕ) (before : Stage) (gone learnt : PlainFrontier) (is_past : Bool) (order : List ℕ) → get_or before.known target false ≡ false → GoesOn nets equation (frontier_of before) gone is_past → is_past ≡ true → learnt ≡ with_net gone target → order ≡ before.order ++ equation ∷ [] → Visit nets target equation before (record { known = learnt.known; places = learnt.places; order = order })
+visit_finished nets target equation before gone learnt is_past order unknown goes e el eo =
+    finished goes.place unknown goes.reached (goes.past.0 e) (ap (λ (f : PlainFrontier). record { known = f.known; places = f.places; order = order }) (el ∙ ap (λ f. with_net f target) goes.after_is) ∙ ap (λ (o : List ℕ). record { known = set before.known target true; places = set before.places equation goes.place; order = o }) eo)
+
+-- the equation waits for a net
+pub visit_waiting : (nets : List ℕ) (target equation : ℕ) (before : Stage) (gone : PlainFrontier) (is_past : Bool) → GoesOn nets equation (frontier_of before) gone is_past → is_past ≡ false → Visit nets target equation before (record { known = gone.known; places = gone.places; order = before.order })
+visit_waiting nets target equation before gone is_past goes e =
+    waiting goes.place goes.reached low (ap (λ (f : PlainFrontier). record { known = f.known; places = f.places; order = before.order }) goes.after_is)
+  where
+    apart : goes.place ≡ length nets → ⊥
+    apart p = let t : is_past ≡ true = goes.past.1 p in absurd cc
+
+    low : goes.place < length nets
+    low = elim (lower_or_not goes.place (length nets)) [
+      | inl l ↦ l
+      | inr high ↦ absurd (apart (omega (arith, high, goes.reached.high)))
+    ]
 
 module _ (starts targets : List ℕ) (reads : List (List ℕ)) (count : ℕ) (tables : AreTables targets reads count) where
   abbrev nets_of : ℕ → List ℕ

@@ -5,6 +5,7 @@ pub mod Runs
 pub mod Grounding
 pub mod Orders
 pub mod Searching
+pub mod Frontiers
 pub mod Stages
 pub mod Steps
 pub mod Founding

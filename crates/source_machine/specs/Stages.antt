@@ -1,5 +1,6 @@
 -- How an order of the equations is found: each equation waits for one net that isn't known.
 use Rattle.std.specs.Prelude.{◌≡◌, ℕ, ◌+◌, ◌≤◌, ◌<◌, ◌⊎◌, List, [], ◌∷◌, ◌++◌, Bool, true, false, length, map, drop, get_or, set, slice_index, if◌then◌else◌}
+use Rattle.source_machine.specs.Frontiers.{IsReached}
 use Rattle.source_machine.specs.Members.{IsIn}
 use Rattle.source_machine.specs.Orders.{IsKnown, IsOrdered}
 
@@ -25,13 +26,6 @@ pub record Stage : Type 0 where
   pub known : List Bool
   pub places : List ℕ
   pub order : List ℕ
-
--- the first place from one place on whose net isn't known, or the number of nets
-pub record IsReached (nets : List ℕ) (known : List Bool) (place reached : ℕ) : Type 0 where
-  pub low : place ≤ reached
-  pub high : reached ≤ length nets
-  pub passed : (p : ℕ) → place ≤ p → p < reached → get_or known (slice_index nets p) false ≡ true
-  pub stopped : reached < length nets → get_or known (slice_index nets reached) false ≡ false
 
 -- one equation goes on: its net is known already, or it stops at a net that isn't known, or it gets a value
 pub data Visit (nets : List ℕ) (target equation : ℕ) (before after : Stage) : Type 0 where

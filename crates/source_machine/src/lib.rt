@@ -7,6 +7,7 @@ mod covers;
 mod faults;
 mod fitting;
 mod founding;
+mod frontiers;
 mod laws;
 mod listing;
 mod machines;
@@ -20,9 +21,9 @@ mod verdicts;
 
 pub use covers::Cover;
 pub use founding::{Machine, ground};
+pub use frontiers::Frontier;
 pub use laws::{examples, one_run, one_verdict};
 pub use machines::{Equation, Latch, RawMachine};
-pub use ordering::reach;
 pub use places::Place;
 pub use readers::{Readers, Tables};
 pub use valuations::{Values, step};

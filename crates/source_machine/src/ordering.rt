@@ -2,10 +2,10 @@
 
 ghost use Rattle.std.specs.Prelude.{◌≡◌, ◌≤◌, ◌<◌, ◌+◌, ◌++◌, ◌∷◌, [], ℕ, List, Bool, false, true, map, length, replicate, get_or, slice_index, IfOk, OnOk};
 ghost use Rattle.source_machine.specs.Members.{IsIn};
-ghost use Rattle.source_machine.specs.Stages.{Stage, IsReached, Visit};
+ghost use Rattle.source_machine.specs.Stages.{Stage, Visit};
 ghost use Rattle.source_machine.specs.Steps.{TablesFit, StageFits, Settles, Steps, IsReader, IsClosure};
 
-use crate::faults::{clear_bits, set_bits};
+use crate::frontiers::Frontier;
 use crate::readers::Tables;
 use pulse_ids::NoMemory;
 use std::alloc::Global;
@@ -15,29 +15,14 @@ use std::marker::Model;
 /// each equation's nets are known, and the equations in order.
 #[derive(Drop)]
 pub(crate) struct Progress {
-    known: Vec<bool>,
-    places: Vec<usize>,
+    frontier: Frontier,
     order: Vec<usize>,
 }
 
 impl Model for Progress {
     ghost Value = { Stage };
 
-    ghost view = { λ progress. record { known = progress.known.items; places = progress.places.items; order = progress.order.items } };
-}
-
-/// The first place at or after this one whose net isn't known, or the number of nets. The place is
-/// at most that number, and there is a bit for each net. It looks at each place that it passes once.
-pub fn reach(nets: &[u32], place: usize, known: &[bool]) -> usize
-    requires within { place ≤ length nets.now }
-    requires fit { (net : ℕ) → IsIn net nets.now → net < length known.now }
-    ensures { IsReached nets.now known.now place result }
-{
-    let mut at = place;
-    while at < nets.len() && known[nets[at] as usize] {
-        at += 1;
-    }
-    at
+    ghost view = { λ progress. record { known = progress.frontier.known; places = progress.frontier.places; order = progress.order.items } };
 }
 
 impl Progress {
@@ -49,13 +34,11 @@ impl Progress {
         requires fit { (net : ℕ) → IsIn net nets.now → net < length self.old.known }
         ensures { OnOk result (Visit nets.now target equation self.old self.new) }
     {
-        if self.known[target as usize] {
+        if self.frontier.knows(target) {
             return Ok(());
         }
-        let place = reach(nets, self.places[equation], &self.known);
-        self.places[equation] = place;
-        if place == nets.len() {
-            self.known[target as usize] = true;
+        if self.frontier.advance(nets, equation) {
+            self.frontier.learn(target);
             self.order.push(equation)?;
         }
         Ok(())
@@ -112,15 +95,9 @@ impl Progress {
         requires { (net : ℕ) → IsIn net tables.now.starts.items → net < tables.now.count }
         ensures { IfOk result (λ progress. StageFits tables.now progress) }
     {
-        let mut known = clear_bits(alloc, tables.count)?;
-        set_bits(&mut known, tables.starts.as_slice(), true);
-        let places = zeros(alloc, tables.len())?;
+        let frontier = Frontier::new(alloc, tables)?;
         let order = Vec::with_capacity(alloc, tables.len())?;
-        Ok(Progress {
-            known,
-            places,
-            order,
-        })
+        Ok(Progress { frontier, order })
     }
 
     /// Goes on with each equation once.
@@ -151,13 +128,6 @@ impl Progress {
         }
         Ok(())
     }
-}
-
-/// So many zeros.
-fn zeros(alloc: Global, count: usize) -> Result<Vec<usize>, NoMemory>
-    ensures { IfOk result (λ numbers. numbers.items ≡ replicate count 0) }
-{
-    Ok(vec![in alloc; 0usize; count]?)
 }
 
 /// The nets of these equations.

@@ -17,5 +17,5 @@ build-requires c =
 
 pub returns : goal.returns
 returns c =
-    let inside : Search = record { known = c.self.inside.known.items; places = c.self.inside.places.items; waiting = c.self.inside.queue; order = c.self.inside.order.items } in
+    let inside : Search = record { known = c.self.inside.frontier.known; places = c.self.inside.frontier.places; waiting = c.self.inside.queue; order = c.self.inside.order.items } in
     subst (λ (b : Search). IsBuiltNext b c.in-Some.net c.build.new.self) c.self.view_is (built_next inside c.pop.new.self c.in-Some.net c.owner-equation.result c.build.new.self c.in-Some.ensures c.owner-equation.ensures c.in_ok-build.ensures)

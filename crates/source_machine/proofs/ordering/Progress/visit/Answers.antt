@@ -1,29 +1,21 @@
-use Rattle.std.proofs.Common.{◌≡◌, ◌<◌, ℕ, List, length, true, false, set, get_or, sym, refl, subst, ◌∙◌, ap, arith}
-use Rattle.std.specs.Prelude.{slice_index}
-use Rattle.source_machine.specs.Stages.{Visit, waiting, finished, IsReached, Stage}
-use Rattle.source_machine.proofs.Searches.{one_item}
+use Rattle.std.proofs.Common.{◌≡◌, ◌<◌, length, false, get_or, sym, subst, ◌∙◌}
+use Rattle.source_machine.specs.Stages.{Visit, Stage}
+use Rattle.source_machine.proofs.Visits.{visit_finished, visit_waiting}
 use Rattle.source_machine.proofs.ordering.Progress.visit.Goals as goal
 
-pub reach-place-requires-clause-fit : goal.reach-place-requires-clause-fit
-reach-place-requires-clause-fit c net i =
-    let lt : net < length c.self.inside.known.items = subst (λ (s : Stage). net < length s.known) (sym c.self.view_is) (c.requires.fit net i) in
-    omega (arith, ap (λ l. length l) c.deref.ensures.value)
+pub advance-requires-clause-fit : goal.advance-requires-clause-fit
+advance-requires-clause-fit c net i =
+    subst (λ (s : Stage). net < length s.known) (sym c.self.view_is) (c.requires.fit net i)
 
 pub returns-in_ok-push : goal.returns-in_ok-push
 returns-in_ok-push c =
-    let placed : c.args.equation < length c.self.inside.places.items = subst (λ (s : Stage). c.args.equation < length s.places) (sym c.self.view_is) c.requires.place in
-    let targeted : c.args.target < length c.self.inside.known.items = subst (λ (s : Stage). c.args.target < length s.known) (sym c.self.view_is) c.requires.target in
-    let start : c.index-2.result.now ≡ slice_index c.self.inside.places.items c.args.equation = c.index-2.ensures ∙ one_item c.self.inside.places.items c.args.equation c.index-2.result.now 0 placed in
-    let reached : IsReached c.args.nets.now c.self.inside.known.items (slice_index c.self.inside.places.items c.args.equation) c.reach-place.result = subst (λ p. IsReached c.args.nets.now c.self.inside.known.items p c.reach-place.result) start (subst (λ k. IsReached c.args.nets.now k c.index-2.result.now c.reach-place.result) c.deref.ensures.value c.reach-place.ensures) in
-    let unknown : get_or c.self.inside.known.items c.args.target false ≡ false = one_item c.self.inside.known.items c.args.target false c.index.result.now targeted ∙ sym c.index.ensures ∙ c.if-index.false in
-    let after : List ℕ → Stage = λ order. record { known = set c.self.inside.known.items c.args.target true; places = set c.self.inside.places.items c.args.equation c.reach-place.result; order = order } in
-    subst (λ (b : Stage). Visit c.args.nets.now c.args.target c.args.equation b (after c.push.new.self.items)) c.self.view_is (finished c.reach-place.result unknown reached c.if-place-nets.true (ap after c.in_ok-push.ensures.items))
+    let before : Stage = record { known = c.self.inside.frontier.known; places = c.self.inside.frontier.places; order = c.self.inside.order.items } in
+    let after : Stage = record { known = c.learn.new.self.known; places = c.learn.new.self.places; order = c.push.new.self.items } in
+    let unknown : get_or c.self.inside.frontier.known c.args.target false ≡ false = sym c.knows.ensures ∙ c.if-knows.false in
+    subst (λ (b : Stage). Visit c.args.nets.now c.args.target c.args.equation b after) c.self.view_is (visit_finished c.args.nets.now c.args.target c.args.equation before c.advance.new.self c.learn.new.self c.advance.result c.push.new.self.items unknown c.advance.ensures c.if-advance.true c.learn.ensures c.in_ok-push.ensures.items)
 
-pub returns-else-place-nets : goal.returns-else-place-nets
-returns-else-place-nets c =
-    let placed : c.args.equation < length c.self.inside.places.items = subst (λ (s : Stage). c.args.equation < length s.places) (sym c.self.view_is) c.requires.place in
-    let start : c.index-2.result.now ≡ slice_index c.self.inside.places.items c.args.equation = c.index-2.ensures ∙ one_item c.self.inside.places.items c.args.equation c.index-2.result.now 0 placed in
-    let reached : IsReached c.args.nets.now c.self.inside.known.items (slice_index c.self.inside.places.items c.args.equation) c.reach-place.result = subst (λ p. IsReached c.args.nets.now c.self.inside.known.items p c.reach-place.result) start (subst (λ k. IsReached c.args.nets.now k c.index-2.result.now c.reach-place.result) c.deref.ensures.value c.reach-place.ensures) in
-    let lt : c.reach-place.result < length c.args.nets.now = grind (arith, reached.high, c.if-place-nets.false) in
-    let after : Stage = record { known = c.self.inside.known.items; places = set c.self.inside.places.items c.args.equation c.reach-place.result; order = c.self.inside.order.items } in
-    subst (λ (b : Stage). Visit c.args.nets.now c.args.target c.args.equation b after) c.self.view_is (waiting c.reach-place.result reached lt refl)
+pub returns-else-advance : goal.returns-else-advance
+returns-else-advance c =
+    let before : Stage = record { known = c.self.inside.frontier.known; places = c.self.inside.frontier.places; order = c.self.inside.order.items } in
+    let after : Stage = record { known = c.advance.new.self.known; places = c.advance.new.self.places; order = c.self.inside.order.items } in
+    subst (λ (b : Stage). Visit c.args.nets.now c.args.target c.args.equation b after) c.self.view_is (visit_waiting c.args.nets.now c.args.target c.args.equation before c.advance.new.self c.advance.result c.advance.ensures c.if-advance.false)

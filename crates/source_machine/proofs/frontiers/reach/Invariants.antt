@@ -1,6 +1,6 @@
 use Rattle.std.proofs.Common.{◌≡◌, ◌≤◌, ◌<◌, ◌-◌, ℕ, length, get_or, true, false}
 use Rattle.std.specs.Prelude.{slice_index}
-use Rattle.source_machine.proofs.ordering.reach.Given as goal
+use Rattle.source_machine.proofs.frontiers.reach.Given as goal
 
 abbrev pub decreases-loop-at : goal.decreases-loop-at
 decreases-loop-at l = length l.nets - l.at

@@ -1,7 +1,7 @@
 //! The graph of a whole machine.
 
-ghost use Rattle.std.specs.Prelude.{◌≡◌, ◌<◌, ◌≤◌, ◌+◌, ◌⊎◌, ◌∷◌, [], Bool, List, length, map, All, IfOk, OnOk};
-ghost use Rattle.source_machine.specs.Machines.{literal_of, latch_of, machine_of};
+ghost use Rattle.std.specs.Prelude.{◌≡◌, ◌<◌, ◌≤◌, ◌+◌, ◌⊎◌, [], length, map, All, IfOk, OnOk};
+ghost use Rattle.source_machine.specs.Machines.{literal_of, machine_of};
 ghost use Rattle.source_machine.specs.Members.{IsIn};
 ghost use Rattle.source_machine.specs.Fitting.{Fits, size_of};
 ghost use Rattle.source_machine.specs.Grounding.{IsWellFounded};

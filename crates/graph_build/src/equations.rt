@@ -1,11 +1,11 @@
 //! The conjunctions of one equation.
 
-ghost use Rattle.std.specs.Prelude.{◌≡◌, ◌<◌, ◌≤◌, ◌+◌, ◌^◌, ◌&&◌, ◌||◌, Bool, List, length, map, All, IfOk};
+ghost use Rattle.std.specs.Prelude.{◌<◌, ◌≤◌, ◌+◌, ◌^◌, ◌||◌, length, map, All, IfOk};
 ghost use Rattle.std.specs.List.{list_any};
 ghost use Rattle.aig_core.specs.Graphs.{count_of};
 ghost use Rattle.aig_core.specs.Values.{value_of};
 ghost use Rattle.source_machine.specs.Machines.{literal_of, equation_of};
-ghost use Rattle.source_machine.specs.Fitting.{LiteralFits, size_of_rows};
+ghost use Rattle.source_machine.specs.Fitting.{size_of_rows};
 ghost use Rattle.source_machine.specs.Runs.{row_value, equation_value};
 ghost use Rattle.graph_build.specs.Literals.{net_value, AllWithin};
 ghost use Rattle.graph_build.specs.Equations.{IsLiteralOf};

@@ -1,6 +1,6 @@
 //! The order in which the equations of a machine are built.
 
-ghost use Rattle.std.specs.Prelude.{◌≡◌, ◌≤◌, ◌<◌, ◌⊎◌, ℕ, List, Bool, false, true, map, length, replicate, get_or, slice_index, IfOk, OnOk};
+ghost use Rattle.std.specs.Prelude.{◌≡◌, ◌≤◌, ◌<◌, ◌⊎◌, ℕ, length, slice_index, IfOk, OnOk};
 ghost use Rattle.source_machine.specs.Machines.{machine_of};
 ghost use Rattle.source_machine.specs.Members.{IsIn};
 ghost use Rattle.source_machine.specs.Fitting.{Fits};

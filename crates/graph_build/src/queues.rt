@@ -1,6 +1,6 @@
 //! Nets that wait for their turn, lowest first.
 
-ghost use Rattle.std.specs.Prelude.{◌≡◌, ◌<◌, [], ℕ, length, replicate, slice_index, IfOk, OnOk};
+ghost use Rattle.std.specs.Prelude.{◌≡◌, ◌<◌, [], length, replicate, slice_index, IfOk, OnOk};
 ghost use Rattle.graph_build.specs.Queues.{Waiting, WaitsMore, IsTaken, IsPopped};
 
 use pulse_ids::NoMemory;

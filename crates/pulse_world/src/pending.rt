@@ -1,6 +1,6 @@
 //! The row of the pending pulses.
 
-ghost use Rattle.std.specs.Prelude.{◌≡◌, ◌<◌, ◌≤◌, ◌^◌, ◌++◌, ◌∷◌, [], None, Some, ℕ, length, IfOk, IfSome, slice_get};
+ghost use Rattle.std.specs.Prelude.{◌≡◌, ◌<◌, ◌≤◌, ◌++◌, ◌∷◌, [], None, Some, length, IfOk, IfSome, slice_get};
 ghost use Rattle.std.specs.List.{swap_remove};
 ghost use Rattle.cell_netlist.specs.Lists.{occurrences};
 ghost use Rattle.pulse_world.specs.PendingRows.{row_of};

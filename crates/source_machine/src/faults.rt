@@ -1,9 +1,8 @@
 //! The lowest net of a fault.
 
-ghost use Rattle.std.specs.Prelude.{◌≡◌, ◌≤◌, ◌<◌, ◌+◌, ◌^◌, min, ℕ, List, Bool, map, take, IfOk, OnOk, length, slice_index, slice_set, true, false, replicate, nat_le, IfSome};
+ghost use Rattle.std.specs.Prelude.{◌≡◌, ◌<◌, ◌^◌, ℕ, IfOk, length, true, false, replicate, nat_le, IfSome};
 ghost use Rattle.std.specs.List.{position};
-ghost use Rattle.source_machine.specs.Members.{IsIn, times_in};
-ghost use Rattle.source_machine.specs.Grounding.{IsLowest, IsNever};
+ghost use Rattle.source_machine.specs.Members.{IsIn};
 ghost use Rattle.source_machine.specs.Searching.{MarksAll, Counts, IsFirstTwice, IsFirstMissing};
 
 use pulse_ids::NoMemory;

@@ -1,6 +1,6 @@
 //! Whether the numbers, names and sizes of a machine are in range.
 
-ghost use Rattle.std.specs.Prelude.{◌≡◌, ◌≢◌, ◌↔◌, ◌^◌, ◌-◌, ℕ, List, map, min, length, All, IfSome, IsTrue};
+ghost use Rattle.std.specs.Prelude.{◌≡◌, ◌↔◌, ◌^◌, ◌-◌, min, length, All, IfSome, IsTrue};
 ghost use Rattle.source_machine.specs.Machines.{literal_of, latch_of, equation_of, machine_of};
 ghost use Rattle.source_machine.specs.Fitting.{IsNumbered, LiteralFits, LatchFits, EquationFits, IsPortName, NamesFit, RawNetsFit, IsWithinLimits, Fits, size_of, size_of_rows};
 

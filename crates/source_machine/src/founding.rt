@@ -1,6 +1,6 @@
 //! Whether each net of a machine has a value, and why not.
 
-ghost use Rattle.std.specs.Prelude.{◌≡◌, ◌≤◌, ◌<◌, ◌+◌, ◌++◌, ◌∷◌, [], List, take, length, map, IfOk, IfErr, OnOk};
+ghost use Rattle.std.specs.Prelude.{◌≡◌, ◌<◌, ◌+◌, ◌++◌, ◌∷◌, [], IfOk, IfErr, OnOk};
 ghost use Rattle.source_machine.specs.Machines.{machine_of};
 ghost use Rattle.source_machine.specs.Fitting.{Fits};
 ghost use Rattle.source_machine.specs.Runs.{driven_nets};

@@ -1,6 +1,6 @@
 //! How far a search for an order of the equations has come.
 
-ghost use Rattle.std.specs.Prelude.{◌≡◌, ◌≤◌, ◌<◌, ℕ, List, Bool, false, true, map, length, replicate, get_or, slice_index, IfOk};
+ghost use Rattle.std.specs.Prelude.{◌≡◌, ◌≤◌, ◌<◌, ℕ, false, true, length, replicate, get_or, slice_index, IfOk};
 ghost use Rattle.source_machine.specs.Members.{IsIn};
 ghost use Rattle.source_machine.specs.Frontiers.{IsReached, IsAtStart, GoesOn, with_net};
 

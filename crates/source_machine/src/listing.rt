@@ -1,6 +1,6 @@
 //! The nets of a machine as lists of numbers.
 
-ghost use Rattle.std.specs.Prelude.{◌≡◌, ◌++◌, List, map, IfOk, OnOk};
+ghost use Rattle.std.specs.Prelude.{◌≡◌, ◌++◌, map, IfOk, OnOk};
 ghost use Rattle.std.specs.List.{flat_map};
 ghost use Rattle.source_machine.specs.Machines.{equation_of, machine_of};
 ghost use Rattle.source_machine.specs.Runs.{driven_nets};

@@ -1,6 +1,6 @@
 //! The order in which the equations of a machine get values.
 
-ghost use Rattle.std.specs.Prelude.{◌≡◌, ◌≤◌, ◌<◌, ◌+◌, ◌++◌, ◌∷◌, [], ℕ, List, Bool, false, true, map, length, replicate, get_or, slice_index, IfOk, OnOk};
+ghost use Rattle.std.specs.Prelude.{◌≡◌, ◌≤◌, ◌<◌, ◌+◌, ℕ, map, length, slice_index, IfOk, OnOk};
 ghost use Rattle.source_machine.specs.Members.{IsIn};
 ghost use Rattle.source_machine.specs.Stages.{Stage, Visit};
 ghost use Rattle.source_machine.specs.Steps.{TablesFit, StageFits, Settles, Steps, IsReader, IsClosure};

@@ -1,6 +1,6 @@
 //! The output literals of a wire text, each an input's literal and each at most once.
 
-ghost use Rattle.std.specs.Prelude.{◌≡◌, ◌≤◌, ◌+◌, ◌*◌, ◌++◌, ◌∷◌, [], IfOk, IsTrue, IsFalse, OnErr};
+ghost use Rattle.std.specs.Prelude.{◌≡◌, ◌≤◌, ◌+◌, ◌*◌, ◌++◌, ◌∷◌, [], IfOk, IsTrue, IsFalse};
 ghost use Rattle.xsfq_cli.specs.OutputCodes.{CanAdd};
 
 use pulse_ids::NoMemory;

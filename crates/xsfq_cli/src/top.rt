@@ -1,15 +1,14 @@
 //! The top call: all that the program does.
 
-ghost use Rattle.std.specs.Prelude.{◌≡◌, ◌⊎◌, ◌↔◌, ◌<◌, ◌-◌, ◌^◌, ℕ, List, [], None, IfSome, IsTrue, OnErr, OnOk, map};
+ghost use Rattle.std.specs.Prelude.{◌≡◌, ◌↔◌, ◌<◌, ◌-◌, ◌^◌, [], None, IfSome, IsTrue, OnOk, map};
 ghost use Rattle.std.specs.String.{string_bytes};
 ghost use Rattle.std.specs.Io.KnownBytes.{Appends};
-ghost use Rattle.byte_ports.specs.Causes.{Rose, HasCause};
 ghost use Rattle.byte_ports.specs.Fronts.{TookFront};
 ghost use Rattle.xsfq_cli.specs.declared.outcomes.Outcome.TheVariants as outcomes;
 ghost use Rattle.xsfq_cli.specs.Orders.{order_of};
 ghost use Rattle.xsfq_cli.specs.Outcomes.{note_text};
 ghost use Rattle.xsfq_cli.specs.Compiled.{Compiles, CompilesFront, Completes};
-ghost use Rattle.xsfq_cli.specs.Verdicts.{HasVerdict, Unbuilt, Reads};
+ghost use Rattle.xsfq_cli.specs.Verdicts.{HasVerdict, Unbuilt};
 ghost use Rattle.xsfq_cli.specs.Writing.{WritesText};
 ghost use Rattle.cell_netlist.specs.Text.{text_of};
 

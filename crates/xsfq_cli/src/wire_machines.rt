@@ -1,6 +1,6 @@
 //! The machine of a wire text.
 
-ghost use Rattle.std.specs.Prelude.{◌≡◌, ◌≤◌, ◌<◌, ◌+◌, ◌^◌, List, map, IfOk, length};
+ghost use Rattle.std.specs.Prelude.{◌≡◌, ◌≤◌, ◌<◌, ◌+◌, map, IfOk};
 ghost use Rattle.cell_netlist.specs.Lists.{upto};
 ghost use Rattle.source_machine.specs.Machines.{literal_of, machine_of};
 ghost use Rattle.xsfq_cli.specs.WireTexts.{unnamed, literal_of_code, wire_machine};

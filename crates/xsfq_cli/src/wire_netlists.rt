@@ -1,8 +1,8 @@
 //! The netlist of a machine of wires. Inversion is the exchange of rails, so it takes no cell.
 
-ghost use Rattle.std.specs.Prelude.{◌≡◌, ◌≤◌, ◌<◌, ◌+◌, ◌*◌, ◌^◌, ◌++◌, ◌∷◌, [], List, ℕ, IfOk, OnOk, length, map, All, if◌then◌else◌, slice_index};
+ghost use Rattle.std.specs.Prelude.{◌≡◌, ◌≤◌, ◌<◌, ◌+◌, ◌*◌, ◌^◌, ◌++◌, ◌∷◌, [], IfOk, OnOk, length, map, All, if◌then◌else◌, slice_index};
 ghost use Rattle.pulse_ids.specs.Ids.{Lit};
-ghost use Rattle.cell_netlist.specs.Lists.{occurrences, bit_at};
+ghost use Rattle.cell_netlist.specs.Lists.{bit_at};
 ghost use Rattle.source_machine.specs.Machines.{literal_of, machine_of};
 ghost use Rattle.xsfq_cli.specs.WireNetlists.{slot_of, IsInSlots, AreWires, MarksNeeded, sign_of_slot, passing_below, input_rail, input_rails_from, ranks_below, output_rails_from, wires_netlist, slots_of};
 

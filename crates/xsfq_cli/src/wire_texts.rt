@@ -1,6 +1,6 @@
 //! Sources of inputs and outputs alone: the header `aag I I 0 O 0`, a line for each input, a line for each output.
 
-ghost use Rattle.std.specs.Prelude.{◌≡◌, ◌≤◌, ◌<◌, ◌^◌, ◌++◌, ◌∷◌, [], ℕ, List, IfSome, IfNone, IfOk, MatchOption, codes, decimal, length};
+ghost use Rattle.std.specs.Prelude.{◌≡◌, ◌≤◌, ◌<◌, ◌++◌, ℕ, List, IfSome, IfNone, IfOk, codes};
 ghost use Rattle.std.specs.List.{flat_map};
 ghost use Rattle.source_machine.specs.Machines.{machine_of};
 ghost use Rattle.xsfq_cli.specs.Verdicts.{HasVerdict, Reads, Unbuilt};

@@ -1,6 +1,6 @@
 //! The text of a netlist, written line by line. A line is words parted by one space and ended by LF.
 
-ghost use Rattle.std.specs.Prelude.{◌≡◌, ◌++◌, ◌∷◌, [], List, ℕ, map, decimal, codes};
+ghost use Rattle.std.specs.Prelude.{◌≡◌, ◌∷◌, [], map, decimal};
 ghost use Rattle.std.specs.List.{flat_map};
 ghost use Rattle.cell_netlist.specs.Text.{line_of, rail_words, cell_words, text_of, sign_word as sign_text, role_word as role_text, bit_word as bit_text, output_word as output_text};
 ghost use Rattle.xsfq_cli.specs.Writing.{WritesText, word_text, spaced, rail_line, cell_line, head_text, lines_text};

@@ -5,7 +5,7 @@ use Rattle.std.proofs.lemmas.List.{take_more, get_or-set_same, get_or-set_other,
 use Rattle.std.proofs.Math.Seq.{get_or-append_seam}
 use Rattle.source_machine.specs.Members.{IsIn}
 use Rattle.source_machine.specs.Stages.{Links, LinksMore, Linked, here, later, AreLinks, LinksAdded, AllLinked}
-use Rattle.source_machine.proofs.Counting.{same_or_not, lower_or_not}
+use Rattle.source_machine.proofs.Counting.{same_or_not, lower_or_not, IsIn-left, IsIn-right}
 use Rattle.source_machine.proofs.Searches.{IsIn-behind}
 
 Linked-more : (owners nexts : List ℕ) (a b head x : ℕ) → length owners ≡ length nexts → Linked owners nexts head x → Linked (owners ++ a ∷ []) (nexts ++ b ∷ []) head x
@@ -79,6 +79,29 @@ module _ (before after : Links) (net equation : ℕ) (links : AreLinks before) (
       go (inl e) = later _ x (length before.owners) (ap (λ q. slice_index after.heads q) e ∙ head_same) (omega (arith, long)) (subst (λ h. Linked after.owners after.nexts h x) (ap (λ q. slice_index before.heads q) e ∙ sym last_next) (linked_before _ x l))
       go (inr ne) = subst (λ h. Linked after.owners after.nexts h x) (sym (head_other other ne)) (linked_before _ x l)
 
+  -- a list that began before leads where it led
+  linked_old : (head x : ℕ) → head ≤ length before.owners → Linked after.owners after.nexts head x → Linked before.owners before.nexts head x
+  linked_old head x low (here _ _ place e lt o) =
+      let inside : place < length before.owners = omega (arith, e, low) in
+      here head x place e inside (sym (owner_before place inside) ∙ o)
+  linked_old head x low (later _ _ place e lt rest) =
+      let inside : place < length before.owners = omega (arith, e, low) in
+      let short : place < length before.nexts = omega (arith, inside, links.paired) in
+      let next : slice_index after.nexts place ≡ slice_index before.nexts place = next_before place short in
+      later head x place e inside (subst (λ h. Linked before.owners before.nexts h x) next (linked_old (slice_index after.nexts place) x (omega (arith, next, links.back place short, inside)) rest))
+
+  more_only : (other x : ℕ) → Linked after.owners after.nexts (slice_index after.heads other) x → ((other ≡ net) × (x ≡ equation)) ⊎ Linked before.owners before.nexts (slice_index before.heads other) x
+  more_only other x l = go (same_or_not other net)
+    where
+      go : (other ≡ net) ⊎ (other ≢ net) → ((other ≡ net) × (x ≡ equation)) ⊎ Linked before.owners before.nexts (slice_index before.heads other) x
+      go (inl e) =
+          let p : slice_index after.heads other - 1 ≡ length before.owners = omega (arith, ap (λ q. slice_index after.heads q) e, head_same) in
+          elim (Linked-step after.owners after.nexts (slice_index after.heads other) x l) [
+            | inl o ↦ inl (e, sym o ∙ ap (λ q. slice_index after.owners q) p ∙ last_owner)
+            | inr rest ↦ inr (subst (λ q. Linked before.owners before.nexts (slice_index before.heads q) x) (sym e) (linked_old (slice_index before.heads net) x (links.low net) (subst (λ h. Linked after.owners after.nexts h x) (ap (λ q. slice_index after.nexts q) p ∙ last_next) rest)))
+          ]
+      go (inr ne) = inr (linked_old (slice_index before.heads other) x (links.low other) (subst (λ h. Linked after.owners after.nexts h x) (head_other other ne) l))
+
   more_added : Linked after.owners after.nexts (slice_index after.heads net) equation
   more_added = here _ equation (length before.owners) head_same (omega (arith, long)) last_owner
 
@@ -94,7 +117,7 @@ module _ (before after : Links) (net equation : ℕ) (links : AreLinks before) (
 
 pub LinksAdded-none : (before : Links) (equation : ℕ) → AreLinks before → LinksAdded before [] equation before
 LinksAdded-none before equation links =
-    record { links = links; width = refl; owned = λ bound lt all. all; kept = λ net other l. l; added = λ net i. absurd i }
+    record { links = links; width = refl; owned = λ bound lt all. all; kept = λ net other l. l; added = λ net i. absurd i; only = λ net other l. inr l }
 
 pub LinksAdded-more : (start before after : Links) (nets : List ℕ) (i equation : ℕ) → i < length nets → get_or nets i 0 < length start.heads → LinksAdded start (take i nets) equation before → LinksMore before (get_or nets i 0) equation after → LinksAdded start (take (i + 1) nets) equation after
 LinksAdded-more start before after nets i equation lt fits h more = rw (take_more nets i 0 lt) (record {
@@ -105,6 +128,13 @@ LinksAdded-more start before after nets i equation lt fits h more = rw (take_mor
   added = λ net j. elim (IsIn-behind net (get_or nets i 0) (take i nets) j) [
     | inl k ↦ more_kept before after (get_or nets i 0) equation h.links inside more net equation (h.added net k)
     | inr e ↦ subst (λ n. Linked after.owners after.nexts (slice_index after.heads n) equation) e (more_added before after (get_or nets i 0) equation h.links inside more)
+  ];
+  only = λ net other l. elim (more_only before after (get_or nets i 0) equation h.links inside more net other l) [
+    | inl s ↦ inl (s.1, IsIn-right net (take i nets) _ (inl (sym s.0)))
+    | inr b ↦ elim (h.only net other b) [
+      | inl s ↦ inl (s.0, IsIn-left net (take i nets) _ s.1)
+      | inr c ↦ inr c
+    ]
   ];
 })
   where
@@ -122,6 +152,7 @@ AllLinked-none reads count = record {
   width = length-replicate count 0;
   owned = λ place lt. absurd (omega arith);
   all = λ equation lt. absurd (omega arith);
+  only = λ net equation l. absurd (Linked-none [] [] (slice_index (replicate count 0) net) equation (replicate_zero count net) l);
 }
 
 pub AllLinked-more : (reads : List (List ℕ)) (upto count : ℕ) (nets : List ℕ) (before after : Links) → upto < length reads → nets ≡ get_or reads upto [] → AllLinked reads upto count before → LinksAdded before nets upto after → AllLinked reads (upto + 1) count after
@@ -130,6 +161,10 @@ AllLinked-more reads upto count nets before after lt e h added = record {
   width = added.width ∙ h.width;
   owned = added.owned (length reads) lt h.owned;
   all = λ equation l net i. here_or_before equation net i (same_or_not equation upto) l;
+  only = λ net equation l. elim (added.only net equation l) [
+    | inl s ↦ subst (λ q. IsIn net (get_or reads q [])) (sym s.0) (subst (λ ns. IsIn net ns) e s.1)
+    | inr b ↦ h.only net equation b
+  ];
 }
   where
     here_or_before : (equation net : ℕ) → IsIn net (get_or reads equation []) → (equation ≡ upto) ⊎ (equation ≢ upto) → equation < upto + 1 → Linked after.owners after.nexts (slice_index after.heads net) equation

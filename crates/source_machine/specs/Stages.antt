@@ -75,10 +75,12 @@ pub record LinksAdded (before : Links) (nets : List ℕ) (equation : ℕ) (after
   pub owned : (bound : ℕ) → equation < bound → ((place : ℕ) → place < length before.owners → slice_index before.owners place < bound) → (place : ℕ) → place < length after.owners → slice_index after.owners place < bound
   pub kept : (net other : ℕ) → Linked before.owners before.nexts (slice_index before.heads net) other → Linked after.owners after.nexts (slice_index after.heads net) other
   pub added : (net : ℕ) → IsIn net nets → Linked after.owners after.nexts (slice_index after.heads net) equation
+  pub only : (net other : ℕ) → Linked after.owners after.nexts (slice_index after.heads net) other → ((other ≡ equation) × IsIn net nets) ⊎ Linked before.owners before.nexts (slice_index before.heads net) other
 
--- the readers of each net, among so many equations
+-- each net's list leads to those of so many equations that read the net, and to no others
 pub record AllLinked (reads : List (List ℕ)) (upto count : ℕ) (lists : Links) : Type 0 where
   pub links : AreLinks lists
   pub width : length lists.heads ≡ count
   pub owned : (place : ℕ) → place < length lists.owners → slice_index lists.owners place < length reads
   pub all : (equation : ℕ) → equation < upto → (net : ℕ) → IsIn net (get_or reads equation []) → Linked lists.owners lists.nexts (slice_index lists.heads net) equation
+  pub only : (net equation : ℕ) → Linked lists.owners lists.nexts (slice_index lists.heads net) equation → IsIn net (get_or reads equation [])

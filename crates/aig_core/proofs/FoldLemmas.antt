@@ -34,7 +34,8 @@ and_right false q e = absurd cc
 
 pub same_exact : (a b : NodeLit) → is_same a b ≡ true → a ≡ b
 same_exact a b e =
-    literal_exact a b (eqb-true a.id.number b.id.number (and_left (a.id.number == b.id.number) (beq a.negated b.negated) e)) (beq_exact a.negated b.negated (and_right (a.id.number == b.id.number) (beq a.negated b.negated) e))
+    literal_exact a b (eqb-true a.id.number b.id.number (and_left (a.id.number == b.id.number) (beq a.negated b.negated) e))
+    (beq_exact a.negated b.negated (and_right (a.id.number == b.id.number) (beq a.negated b.negated) e))
 
 pub same_self : (a : NodeLit) → is_same a a ≡ true
 same_self a = ap (λ t. t && beq a.negated a.negated) (eq-eqb a.id.number a.id.number refl) ∙ beq_self a.negated
@@ -65,7 +66,8 @@ pub fold_folds : (a b result : NodeLit) → fold_of a b ≡ Some result → Fold
 fold_folds a b result e =
     go (is_same a zero_literal) (is_same b zero_literal) (is_same a (complement b)) (is_same a one_literal) (is_same a b) (is_same b one_literal) refl refl refl refl refl refl e
   where
-    go : (p q s t u v : Bool) → is_same a zero_literal ≡ p → is_same b zero_literal ≡ q → is_same a (complement b) ≡ s → is_same a one_literal ≡ t → is_same a b ≡ u → is_same b one_literal ≡ v → chosen a b p q s t u v ≡ Some result → FoldsTo a b result
+    go : (p q s t u v : Bool) → is_same a zero_literal ≡ p → is_same b zero_literal ≡ q → is_same a (complement b) ≡ s → is_same a one_literal ≡ t → is_same a b ≡ u
+        → is_same b one_literal ≡ v → chosen a b p q s t u v ≡ Some result → FoldsTo a b result
     go true q s t u v ep eq es et eu ev e = zero_first (same_exact a zero_literal ep) cc
     go false true s t u v ep eq es et eu ev e = zero_second (same_exact b zero_literal eq) cc
     go false false true t u v ep eq es et eu ev e = opposite (same_exact a (complement b) es) cc
@@ -76,7 +78,8 @@ fold_folds a b result e =
     go false false false false false false ep eq es et eu ev e = absurd cc
 
 -- the tests find each fold
-folds_to : (a b : NodeLit) (result : NodeLit) (p q s t u v : Bool) → is_same a zero_literal ≡ p → is_same b zero_literal ≡ q → is_same a (complement b) ≡ s → is_same a one_literal ≡ t → is_same a b ≡ u → is_same b one_literal ≡ v → FoldsTo a b result → chosen a b p q s t u v ≡ Some result
+folds_to : (a b : NodeLit) (result : NodeLit) (p q s t u v : Bool) → is_same a zero_literal ≡ p → is_same b zero_literal ≡ q → is_same a (complement b) ≡ s
+    → is_same a one_literal ≡ t → is_same a b ≡ u → is_same b one_literal ≡ v → FoldsTo a b result → chosen a b p q s t u v ≡ Some result
 folds_to a b result p q s t u v ep eq es et eu ev (zero_first e r) =
     let on : true ≡ p = sym (same_as a zero_literal e) ∙ ep in
     sym (ap (λ p. chosen a b p q s t u v) on) ∙ ap Some (sym r)
@@ -125,7 +128,8 @@ folds_to a b result false false false false u v ep eq es et eu ev (same e r) =
 
 pub folds_fold : (a b result : NodeLit) → FoldsTo a b result → fold_of a b ≡ Some result
 folds_fold a b result folds =
-    folds_to a b result (is_same a zero_literal) (is_same b zero_literal) (is_same a (complement b)) (is_same a one_literal) (is_same a b) (is_same b one_literal) refl refl refl refl refl refl folds
+    folds_to a b result (is_same a zero_literal) (is_same b zero_literal) (is_same a (complement b)) (is_same a one_literal) (is_same a b)
+    (is_same b one_literal) refl refl refl refl refl refl folds
 
 pub never_folds : (a b : NodeLit) → fold_of a b ≡ None → IsFoldable a b → ⊥
 never_folds a b e foldable = let found = folds_fold a b foldable.0 foldable.1 in absurd cc
@@ -187,14 +191,19 @@ module _ (state vector : List Bool) (graph : PlainGraph) where
   -- a fold has the conjunction of both values
   pub value-folded : (a b result : NodeLit) → FoldsTo a b result → value_of graph state vector result ≡ (value_of graph state vector a && value_of graph state vector b)
   value-folded a b result (zero_first e r) =
-      ap (value_of graph state vector) r ∙ value-zero state vector graph ∙ sym (ap (λ bit. bit && value_of graph state vector b) (ap (value_of graph state vector) e ∙ value-zero state vector graph))
+      ap (value_of graph state vector) r ∙ value-zero state vector graph ∙ sym
+      (ap (λ bit. bit && value_of graph state vector b) (ap (value_of graph state vector) e ∙ value-zero state vector graph))
   value-folded a b result (zero_second e r) =
-      ap (value_of graph state vector) r ∙ value-zero state vector graph ∙ sym (ap (λ bit. bit && value_of graph state vector a) (ap (value_of graph state vector) e ∙ value-zero state vector graph)) ∙ and_swapped (value_of graph state vector b) (value_of graph state vector a)
+      ap (value_of graph state vector) r ∙ value-zero state vector graph ∙ sym
+      (ap (λ bit. bit && value_of graph state vector a) (ap (value_of graph state vector) e ∙ value-zero state vector graph)) ∙ and_swapped
+      (value_of graph state vector b) (value_of graph state vector a)
   value-folded a b result (one_first e r) =
       ap (value_of graph state vector) r ∙ sym (ap (λ bit. bit && value_of graph state vector b) (ap (value_of graph state vector) e ∙ value-one))
   value-folded a b result (one_second e r) =
-      ap (value_of graph state vector) r ∙ sym (ap (λ bit. bit && value_of graph state vector a) (ap (value_of graph state vector) e ∙ value-one)) ∙ and_swapped (value_of graph state vector b) (value_of graph state vector a)
+      ap (value_of graph state vector) r ∙ sym (ap (λ bit. bit && value_of graph state vector a) (ap (value_of graph state vector) e ∙ value-one)) ∙ and_swapped
+      (value_of graph state vector b) (value_of graph state vector a)
   value-folded a b result (same e r) =
       ap (value_of graph state vector) r ∙ and_twice (value_of graph state vector a) ∙ ap (λ bit. value_of graph state vector a && bit) (ap (value_of graph state vector) e)
   value-folded a b result (opposite e r) =
-      ap (value_of graph state vector) r ∙ value-zero state vector graph ∙ and_opposite (value_of graph state vector b) ∙ sym (ap (λ bit. bit && value_of graph state vector b) (ap (value_of graph state vector) e ∙ value-complement b))
+      ap (value_of graph state vector) r ∙ value-zero state vector graph ∙ and_opposite (value_of graph state vector b) ∙ sym
+      (ap (λ bit. bit && value_of graph state vector b) (ap (value_of graph state vector) e ∙ value-complement b))

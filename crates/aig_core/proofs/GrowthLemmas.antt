@@ -11,11 +11,11 @@ use Rattle.aig_core.specs.Growth.{Grows}
 use Rattle.aig_core.specs.Pairs.{literal_code, pair_of}
 use Rattle.aig_core.specs.Tidy.{IsTidy, IsKept, IsAbsent}
 use Rattle.aig_core.specs.Values.{value_of}
-use Rattle.aig_core.proofs.ListLemmas.{slice_get-left, slice_get_bound, item_of_any}
+use Rattle.aig_core.proofs.CallerLemmas.{slice_get-left, slice_get_bound}
 use Rattle.aig_core.proofs.NodeLemmas.{length_nodes, nodes-with_pair}
 use Rattle.aig_core.proofs.ValueLemmas.{value-conjunction, value-kept, value-added}
 use Rattle.aig_core.proofs.FoldLemmas.{folds_swapped, and_swapped}
-use Rattle.aig_core.proofs.PlaceLemmas.{pair_same, pair_exact, absent_from_any}
+use Rattle.aig_core.proofs.PlaceLemmas.{item_of_any, pair_same, pair_exact, absent_from_any}
 
 -- a kept graph has few nodes
 pub count_bound : (graph : PlainGraph) → IsKept graph → count_of graph < 2 ^ 31
@@ -87,10 +87,12 @@ module _ (old new : PlainGraph) (pair : Pair) where
     | inr added ↦ omega (arith, ap (λ l. l.id.number) added.1, ap count_of added.2, length-append old.pairs (pair ∷ []))
   ]
 
-  pub placed_value : (result : Result NodeLit NoMemory) → Places old new pair result → IsTidy old → IfOk result (λ literal. (state vector : List Bool) → value_of new state vector literal ≡ (value_of old state vector pair.low && value_of old state vector pair.high))
+  pub placed_value : (result : Result NodeLit NoMemory) → Places old new pair result → IsTidy old → IfOk result
+      (λ literal. (state vector : List Bool) → value_of new state vector literal ≡ (value_of old state vector pair.low && value_of old state vector pair.high))
   placed_value (Err e) places tidy = tt
   placed_value (Ok literal) places tidy = λ state vector. elim (outcome literal places) [
-    | inl found ↦ ap (λ graph. value_of graph state vector literal) found.3 ∙ ap (value_of old state vector) found.2 ∙ value-conjunction state vector old found.0 pair found.1 (tidy.each found.0 pair found.1).low_before (tidy.each found.0 pair found.1).high_before
+    | inl found ↦ ap (λ graph. value_of graph state vector literal) found.3 ∙ ap (value_of old state vector) found.2
+        ∙ value-conjunction state vector old found.0 pair found.1 (tidy.each found.0 pair found.1).low_before (tidy.each found.0 pair found.1).high_before
     | inr added ↦ ap (λ graph. value_of graph state vector literal) added.2 ∙ ap (value_of (with_pair old pair) state vector) added.1 ∙ value-added state vector old pair
   ]
 
@@ -99,7 +101,8 @@ abbrev pair_by : Bool → NodeLit → NodeLit → Pair
 pair_by lower a b = if lower then record { low = a; high = b } else record { low = b; high = a }
 
 -- both orders have one conjunction
-pub pair_value : (graph : PlainGraph) (state vector : List Bool) (a b : NodeLit) → (value_of graph state vector (pair_of a b).low && value_of graph state vector (pair_of a b).high) ≡ (value_of graph state vector a && value_of graph state vector b)
+pub pair_value : (graph : PlainGraph) (state vector : List Bool) (a b : NodeLit) →
+    (value_of graph state vector (pair_of a b).low && value_of graph state vector (pair_of a b).high) ≡ (value_of graph state vector a && value_of graph state vector b)
 pair_value graph state vector a b = go (nat_lt (literal_code a) (literal_code b))
   where
     go : (t : Bool) → (value_of graph state vector (pair_by t a b).low && value_of graph state vector (pair_by t a b).high) ≡ (value_of graph state vector a && value_of graph state vector b)
@@ -116,7 +119,8 @@ foldable_absent graph a b tidy foldable = λ place at.
     go false = folds_swapped a b foldable
 
 -- placing the pair of two literals gives the conjunction of their values
-pub and_value : (old new : PlainGraph) (a b : NodeLit) (pair : Pair) (result : Result NodeLit NoMemory) → pair ≡ pair_of a b → Places old new pair result → IsTidy old → IfOk result (λ literal. (state vector : List Bool) → value_of new state vector literal ≡ (value_of old state vector a && value_of old state vector b))
+pub and_value : (old new : PlainGraph) (a b : NodeLit) (pair : Pair) (result : Result NodeLit NoMemory) → pair ≡ pair_of a b → Places old new pair result → IsTidy old
+    → IfOk result (λ literal. (state vector : List Bool) → value_of new state vector literal ≡ (value_of old state vector a && value_of old state vector b))
 and_value old new a b pair (Err e) is places tidy = tt
 and_value old new a b pair (Ok literal) is places tidy = λ state vector.
     placed_value old new pair (Ok literal) places tidy state vector ∙ ap (λ p. value_of old state vector p.low && value_of old state vector p.high) is ∙ pair_value old state vector a b

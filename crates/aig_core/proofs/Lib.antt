@@ -1,9 +1,11 @@
+-- Lemmas by subject, and those that other crates may cite.
+pub mod CallerLemmas
 pub mod FoldLemmas
 pub mod GrowthLemmas
-pub mod LawLemmas
-pub mod ListLemmas
+pub mod HalfAdder
+pub mod NodeBits
 pub mod NodeLemmas
+pub mod NodePlaces
 pub mod PlaceLemmas
-pub mod Shown
 pub mod TidyLemmas
 pub mod ValueLemmas

@@ -2,13 +2,15 @@
 use Rattle.std.proofs.Common.{◌≡◌, ℕ, ◌<◌, ◌^◌, ◌&&◌, ◌==◌, inl, inr, List, [], ◌∷◌, ◌++◌, length, slice_get, Some, Bool, true, false, if◌then◌else◌, refl, sym, ◌∙◌, ap, subst, true≢false}
 use Rattle.std.specs.List.{list_any}
 use Rattle.std.specs.Bool.{beq}
+use Rattle.std.proofs.lemmas.Option.{slice_get-get_or}
 use Rattle.pulse_ids.specs.Ids.{NodeLit}
 use Rattle.indexmap.specs.IndexSet.{insert_key}
 use Rattle.aig_core.specs.declared.pairs.Pair.{Pair}
 use Rattle.aig_core.specs.Folds.{is_same}
 use Rattle.aig_core.specs.Graphs.{PlainGraph, count_of, with_pair}
 use Rattle.aig_core.specs.Tidy.{IsTidyPair, IsKept, IsAbsent}
-use Rattle.aig_core.proofs.ListLemmas.{list_any-at, item_of_any}
+use Rattle.std.proofs.lemmas.Map.Keys.{any_passes_from_place}
+use Rattle.std.proofs.lemmas.List.Folds.{Any-from_list_any}
 use Rattle.aig_core.proofs.FoldLemmas.{same_exact, same_self, and_left, and_right}
 use Rattle.aig_core.proofs.TidyLemmas.{item_of_more, kept_added}
 
@@ -16,12 +18,18 @@ use Rattle.aig_core.proofs.TidyLemmas.{item_of_more, kept_added}
 abbrev pub literal_same : NodeLit → NodeLit → Bool
 literal_same a b = ((a.id.number == b.id.number) && true) && beq a.negated b.negated
 
-and_true : (t : Bool) → (t && true) ≡ t
-and_true true = refl
-and_true false = refl
+and-true : (t : Bool) → (t && true) ≡ t
+and-true true = refl
+and-true false = refl
 
 literal_same-is : (a b : NodeLit) → literal_same a b ≡ is_same a b
-literal_same-is a b = ap (λ t. t && beq a.negated b.negated) (and_true (a.id.number == b.id.number))
+literal_same-is a b = ap (λ t. t && beq a.negated b.negated) (and-true (a.id.number == b.id.number))
+
+-- the item that passes a test, at its place
+pub item_of_any : {X : Type 0} (test : X → Bool) (xs : List X) → list_any test xs ≡ true → (k : ℕ) × (x : X) × (slice_get xs k ≡ Some x) × (test x ≡ true)
+item_of_any test xs h =
+    let r = Any-from_list_any test xs h in
+    (r.0, r.1, slice_get-get_or xs r.0 r.1 r.2 ∙ ap Some r.3, r.4)
 
 -- whether two pairs are the same
 abbrev pub pair_same : Pair → Pair → Bool
@@ -39,7 +47,7 @@ pair_self a =
 
 module _ (graph : PlainGraph) (pair : Pair) where
   pub found_any : (place : ℕ) → slice_get graph.pairs place ≡ Some pair → list_any (pair_same pair) graph.pairs ≡ true
-  found_any place e = list_any-at (pair_same pair) graph.pairs place pair e (pair_self pair)
+  found_any place e = any_passes_from_place (pair_same pair) graph.pairs place pair e (pair_self pair)
 
   pub absent_from_any : list_any (pair_same pair) graph.pairs ≡ false → IsAbsent graph pair
   absent_from_any e = λ place at. true≢false (sym (found_any place at) ∙ e)

@@ -14,7 +14,8 @@ two_inputs = record { inputs = 2; latches = 0; pairs = [] }
 -- node 3 is the conjunction of the inputs, node 4 that of their complements, and node 5 that of both complements
 abbrev pub half_adder : PlainGraph
 half_adder =
-    with_pair (with_pair (with_pair two_inputs (pair_of (positive 1) (positive 2))) (pair_of (complement (positive 2)) (complement (positive 1)))) (pair_of (complement (positive 3)) (complement (positive 4)))
+    with_pair (with_pair (with_pair two_inputs (pair_of (positive 1) (positive 2))) (pair_of (complement (positive 2)) (complement (positive 1))))
+    (pair_of (complement (positive 3)) (complement (positive 4)))
 
 -- node 3 is the carry, and node 5 is 1 where the inputs differ
 pub record AddsTwoBits : Type 0 where

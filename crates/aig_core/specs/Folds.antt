@@ -39,4 +39,5 @@ is_same a b = (a.id.number == b.id.number) && beq a.negated b.negated
 -- the literal to which the conjunction folds, where it folds
 abbrev pub fold_of : NodeLit → NodeLit → Option NodeLit
 fold_of a b =
-    if is_same a zero_literal || is_same b zero_literal || is_same a (complement b) then Some zero_literal else if is_same a one_literal || is_same a b then Some b else if is_same b one_literal then Some a else None
+    if is_same a zero_literal || is_same b zero_literal || is_same a
+    (complement b) then Some zero_literal else if is_same a one_literal || is_same a b then Some b else if is_same b one_literal then Some a else None

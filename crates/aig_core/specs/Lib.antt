@@ -1,3 +1,4 @@
+-- The words of graphs: nodes, folds, values and growth.
 pub mod Examples
 pub mod Folds
 pub mod Graphs

@@ -1,5 +1,7 @@
 -- Tidy graphs, and what one conjunction does to a graph.
-use Rattle.std.specs.Prelude.{◌≡◌, ℕ, ◌+◌, ◌<◌, ◌≤◌, ◌^◌, length, slice_get, Some}
+use Rattle.std.specs.Prelude.{◌≡◌, ℕ, ◌+◌, ◌<◌, ◌≤◌, length, slice_get, Some}
+use Rattle.pulse_ids.specs.Quantities.{greatest_of}
+use Rattle.pulse_ids.specs.declared.quantities.Quantity.TheVariants.{Inputs, Latches, Size}
 use Rattle.aig_core.specs.declared.pairs.Pair.{Pair}
 use Rattle.aig_core.specs.Folds.{IsFoldable}
 use Rattle.aig_core.specs.Graphs.{PlainGraph, first_conjunction}
@@ -17,12 +19,12 @@ pub record IsTidy (graph : PlainGraph) : Type 0 where
   pub each : (place : ℕ) (pair : Pair) → slice_get graph.pairs place ≡ Some pair → IsTidyPair (first_conjunction graph + place) pair
   pub once : (one other : ℕ) (pair : Pair) → slice_get graph.pairs one ≡ Some pair → slice_get graph.pairs other ≡ Some pair → one ≡ other
 
--- a tidy graph of at most 16,384 inputs, 16,384 latches and 262,144 conjunctions
+-- a tidy graph with at most as many inputs, latches and conjunctions as are accepted
 pub record IsKept (graph : PlainGraph) : Type 0 where
   pub tidy : IsTidy graph
-  pub inputs_fit : graph.inputs ≤ 2 ^ 14
-  pub latches_fit : graph.latches ≤ 2 ^ 14
-  pub pairs_fit : length graph.pairs ≤ 2 ^ 18
+  pub inputs_fit : graph.inputs ≤ greatest_of Inputs
+  pub latches_fit : graph.latches ≤ greatest_of Latches
+  pub pairs_fit : length graph.pairs ≤ greatest_of Size
 
 -- no conjunction holds the pair
 abbrev pub IsAbsent : PlainGraph → Pair → Type 0

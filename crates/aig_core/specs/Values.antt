@@ -1,24 +1,21 @@
 -- What the nodes of a graph are worth, for the bits of the latches (the state) and of the inputs (the vector).
-use Rattle.std.specs.Prelude.{ℕ, List, [], ◌∷◌, ◌++◌, Bool, false, not, ◌&&◌, if◌then◌else◌, slice_index_or}
+use Rattle.std.specs.Prelude.{List, [], ◌∷◌, ◌++◌, Bool, false, not, ◌&&◌, if◌then◌else◌}
 use Rattle.pulse_ids.specs.Ids.{NodeLit}
 use Rattle.aig_core.specs.declared.nodes.Node.{Node}
 use Rattle.aig_core.specs.declared.nodes.Node.TheVariants.{False, Input, Latch, And}
 use Rattle.aig_core.specs.Graphs.{PlainGraph, nodes_of}
-
--- the bit of this number in a list of bits, and 0 past its end
-abbrev pub bit_in : List Bool → ℕ → Bool
-bit_in bits number = slice_index_or bits number false
+use Rattle.pulse_ids.specs.Lists.{bit_at}
 
 -- the bit of a literal's node, or the complement where the literal is negated
 abbrev pub literal_bit : List Bool → NodeLit → Bool
 literal_bit bits literal =
-    if literal.negated then not (bit_in bits literal.id.number) else bit_in bits literal.id.number
+    if literal.negated then not (bit_at bits literal.id.number) else bit_at bits literal.id.number
 
 -- the bit of a node, by the bits of the nodes before it
 abbrev pub node_bit : List Bool → List Bool → List Bool → Node → Bool
 node_bit state vector bits False = false
-node_bit state vector bits (Input number) = bit_in vector number
-node_bit state vector bits (Latch number) = bit_in state number
+node_bit state vector bits (Input number) = bit_at vector number
+node_bit state vector bits (Latch number) = bit_at state number
 node_bit state vector bits (And low high) = literal_bit bits low && literal_bit bits high
 
 -- the bits, and those of further nodes after them

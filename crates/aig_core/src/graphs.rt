@@ -1,13 +1,16 @@
 //! The graph: its nodes by their numbers, and the one way in which it grows.
 
-ghost use Rattle.std.specs.Prelude.{◌≡◌, ℕ, ◌+◌, ◌<◌, ◌≤◌, ◌^◌, ◌&&◌, List, [], Bool, Some, Ok, length, slice_get, OnErr, IfOk};
+ghost use Rattle.std.specs.Prelude.{◌≡◌, ℕ, ◌+◌, ◌<◌, ◌≤◌, ◌&&◌, List, [], Bool, Some, Ok, length, slice_get, OnErr, IfOk};
 ghost use Rattle.pulse_ids.specs.Ids.{NodeLit as Literal};
 ghost use Rattle.aig_core.specs.Folds.{positive, FoldsTo, IsFoldable};
 ghost use Rattle.aig_core.specs.Graphs.{nodes_of, first_conjunction, count_of, with_pair, conjunction};
 ghost use Rattle.aig_core.specs.Growth.{Grows};
 ghost use Rattle.aig_core.specs.Pairs.{pair_of};
 ghost use Rattle.aig_core.specs.Tidy.{IsKept, IsTidyPair, IsAbsent};
-ghost use Rattle.aig_core.specs.Values.{value_of, bit_in};
+ghost use Rattle.aig_core.specs.Values.{value_of};
+ghost use Rattle.pulse_ids.specs.Lists.{bit_at};
+ghost use Rattle.pulse_ids.specs.Quantities.{greatest_of};
+ghost use Rattle.pulse_ids.specs.declared.quantities.Quantity.TheVariants.{Inputs, Latches, Size};
 
 use crate::folds::folded;
 use crate::nodes::Node;
@@ -42,8 +45,8 @@ impl Graph {
     /// A graph with these numbers of inputs and latches, each at most 16,384, and no conjunction. It
     /// takes no memory.
     pub fn new(alloc: Global, inputs: u32, latches: u32) -> Graph
-        requires inputs { inputs ≤ 2 ^ 14 }
-        requires latches { latches ≤ 2 ^ 14 }
+        requires inputs { inputs ≤ greatest_of Inputs }
+        requires latches { latches ≤ greatest_of Latches }
         ensures graph { result ≡ record { inputs = inputs; latches = latches; pairs = [] } }
         ensures kept { IsKept result }
     {
@@ -69,7 +72,7 @@ impl Graph {
         requires { k < self.now.inputs }
         ensures literal { result ≡ positive (1 + k) }
         ensures node { slice_get (nodes_of self.now) result.id.number ≡ Some (Node.Input k) }
-        ensures value { (state vector : List Bool) → value_of self.now state vector result ≡ bit_in vector k }
+        ensures value { (state vector : List Bool) → value_of self.now state vector result ≡ bit_at vector k }
     {
         let _ = &self.inputs; // the proof learns the invariant where a field is named
         NodeLit::new(NodeId::new(1 + k), false)
@@ -80,7 +83,7 @@ impl Graph {
         requires { k < self.now.latches }
         ensures literal { result ≡ positive (1 + self.now.inputs + k) }
         ensures node { slice_get (nodes_of self.now) result.id.number ≡ Some (Node.Latch k) }
-        ensures value { (state vector : List Bool) → value_of self.now state vector result ≡ bit_in state k }
+        ensures value { (state vector : List Bool) → value_of self.now state vector result ≡ bit_at state k }
     {
         NodeLit::new(NodeId::new(1 + self.inputs + k), false)
     }
@@ -109,11 +112,13 @@ impl Graph {
     pub fn and(&mut self, a: NodeLit, b: NodeLit) -> Result<NodeLit, NoMemory>
         requires a { a.id.number < count_of self.old }
         requires b { b.id.number < count_of self.old }
-        requires room { length self.old.pairs < 2 ^ 18 }
+        requires room { length self.old.pairs < greatest_of Size }
         ensures value { IfOk result (λ literal. (state vector : List Bool) → value_of self.new state vector literal ≡ (value_of self.old state vector a && value_of self.old state vector b)) }
         ensures folded { (literal : Literal) → FoldsTo a b literal → (result ≡ Ok literal) × (self.new ≡ self.old) }
-        ensures found { (place : ℕ) → slice_get self.old.pairs place ≡ Some (pair_of a b) → (result ≡ Ok (positive (first_conjunction self.old + place))) × (self.new ≡ self.old) }
-        ensures added { (IsFoldable a b → ⊥) → IsAbsent self.old (pair_of a b) → IfOk result (λ literal. (literal ≡ positive (count_of self.old)) × (self.new ≡ with_pair self.old (pair_of a b))) }
+        ensures found { (place : ℕ) → slice_get self.old.pairs place ≡ Some (pair_of a b)
+            → (result ≡ Ok (positive (first_conjunction self.old + place))) × (self.new ≡ self.old) }
+        ensures added { (IsFoldable a b → ⊥) → IsAbsent self.old (pair_of a b)
+            → IfOk result (λ literal. (literal ≡ positive (count_of self.old)) × (self.new ≡ with_pair self.old (pair_of a b))) }
         ensures within { IfOk result (λ literal. literal.id.number < count_of self.new) }
         ensures grows { Grows self.old self.new }
         ensures err { OnErr result (self.new ≡ self.old) }
@@ -145,7 +150,7 @@ impl Graph {
 
     /// The literal of the conjunction at this place among the conjunctions, at most 262,144.
     fn conjunction_literal(&self, place: u32) -> NodeLit
-        requires { place ≤ 2 ^ 18 }
+        requires { place ≤ greatest_of Size }
         ensures literal { result ≡ positive (first_conjunction self.now + place) }
         ensures kept { IsKept self.now }
     {
@@ -156,7 +161,7 @@ impl Graph {
     /// The pair may stand there, and there are fewer than 262,144 conjunctions.
     fn place(&mut self, pair: Pair) -> Result<NodeLit, NoMemory>
         requires pair { IsTidyPair (count_of self.old) pair }
-        requires room { length self.old.pairs < 2 ^ 18 }
+        requires room { length self.old.pairs < greatest_of Size }
         ensures found { (place : ℕ) → slice_get self.old.pairs place ≡ Some pair → (result ≡ Ok (positive (first_conjunction self.old + place))) × (self.new ≡ self.old) }
         ensures added { IsAbsent self.old pair → IfOk result (λ literal. (literal ≡ positive (count_of self.old)) × (self.new ≡ with_pair self.old pair)) }
         ensures err { OnErr result (self.new ≡ self.old) }

@@ -8,9 +8,7 @@ mod graphs;
 mod laws;
 mod nodes;
 mod pairs;
-#[cfg(test)]
-mod tests;
 
 pub use graphs::Graph;
-pub use laws::{examples, nodes_have_values};
+pub use laws::{examples, nodes_have_places, nodes_have_values};
 pub use nodes::Node;

@@ -1,3 +1,3 @@
-pub mod Counts
+-- The lemmas of this crate; `CallerLemmas` are for the crates above.
+pub mod CallerLemmas
 pub mod Pieces
-pub mod TakenFronts

@@ -1,3 +1,5 @@
+-- The definitions of this crate.
 pub mod Causes
-pub mod Fronts
+pub mod Prefixes
 pub mod Scripts
+pub mod Writing

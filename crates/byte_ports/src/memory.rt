@@ -1,4 +1,5 @@
-// Ports over bytes in memory, whose calls fail as a list of numbers says.
+//! Ports over bytes in memory, whose calls fail as a list of numbers says.
+
 ghost use Rattle.std.specs.Prelude.{◌≡◌, ◌+◌, ◌-◌, ◌^◌, ◌<◌, ◌≤◌, ◌++◌, IfOk, IsErr, IsFalse, IsOk, IsTrue, Ok, OnErr, OnOk, Some, drop, length, min, take, true, []};
 ghost use Rattle.std.specs.Io.{ReadsAtMost, WritesAtMost};
 ghost use Rattle.std.specs.Io.KnownBytes.{Keeps, ReadConsumes, WriteAppends};
@@ -80,7 +81,7 @@ impl Source for MemorySource {
             self.faults = self.faults.saturating_add(1);
             return Err(Failed);
         }
-        let count = give_front(into, &self.bytes, self.at, self.step);
+        let count = give_prefix(into, &self.bytes, self.at, self.step);
         self.at += count;
         Ok(count)
     }
@@ -197,22 +198,22 @@ fn stands_in(failing: &[u64], call: u64) -> bool
     call < u64::MAX && failing.contains(&call)
 }
 
-// Puts at most `most` of the bytes from `at` on at the front of `into`, and answers how many.
-pub(crate) fn give_front(into: &mut [u8], bytes: &[u8], at: usize, most: usize) -> usize
+// Puts at most `most` of the bytes from `at` on at the start of `into`, and answers how many.
+pub(crate) fn give_prefix(into: &mut [u8], bytes: &[u8], at: usize, most: usize) -> usize
     requires { at ≤ length bytes.now }
     ensures count { result ≡ min most (min (length (drop at bytes.now)) (length into.old)) }
     ensures put { into.new ≡ take result (drop at bytes.now) ++ drop result into.old }
     ensures consumed { drop at bytes.now ≡ take result into.new ++ drop (at + result) bytes.now }
     ensures end { 0 < most → 0 < length into.new → result ≡ 0 → drop (at + result) bytes.now ≡ [] }
 {
-    copy_front(into, &bytes[at..], most)
+    copy_prefix(into, &bytes[at..], most)
 }
 
 // Copies as many bytes as both have, but at most `most`, and answers how many.
-fn copy_front(into: &mut [u8], from: &[u8], most: usize) -> usize
+fn copy_prefix(into: &mut [u8], from: &[u8], most: usize) -> usize
     ensures count { result ≡ min most (min (length from.now) (length into.old)) }
     ensures copied { into.new ≡ take result from.now ++ drop result into.old }
-    ensures front { take result into.new ≡ take result from.now }
+    ensures prefix { take result into.new ≡ take result from.now }
 {
     let count = most.min(from.len().min(into.len()));
     into[..count].copy_from_slice(&from[..count]);

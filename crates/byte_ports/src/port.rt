@@ -1,4 +1,5 @@
-// What a source and a sink are to the code above them.
+//! What a source and a sink are to the code above them.
+
 ghost use Rattle.std.specs.Prelude.{◌-◌, ◌^◌, ◌<◌, ◌≤◌, ℕ, Bool, IfOk, IsFalse, IsTrue, List, OnErr, OnOk, length};
 ghost use Rattle.std.specs.Io.{ReadsAtMost, WritesAtMost};
 ghost use Rattle.std.specs.Io.KnownBytes.{Keeps, ReadConsumes, WriteAppends};
@@ -20,7 +21,7 @@ pub trait Source {
     /// How often it has failed, up to 2^64 - 1.
     ghost faults: { Self → ℕ };
 
-    /// Puts the next bytes at the front of `into`, and answers how many. `Ok(0)` for a slice that
+    /// Puts the next bytes at the start of `into`, and answers how many. `Ok(0)` for a slice that
     /// isn't empty comes only where nothing is left.
     ///
     /// Errors: `Failed` only where the count of faults rose. Then no byte was taken.
@@ -44,7 +45,7 @@ pub trait Sink {
     /// Whether its last call was a flush that succeeded.
     ghost flushed: { Self → Bool };
 
-    /// Takes a front of `bytes` and answers its length, which is at least 1 unless `bytes` is
+    /// Takes a prefix of `bytes` and answers its length, which is at least 1 unless `bytes` is
     /// empty. After it the sink isn't flushed.
     ///
     /// Errors: `Failed` only where the count of faults rose. Then no byte was taken.

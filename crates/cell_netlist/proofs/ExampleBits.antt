@@ -1,9 +1,11 @@
 -- The equations of the toggle flip-flop, and the texts of two netlists.
 use Rattle.std.proofs.Common.{◌≡◌, Bool, true, false, not, List, [], ◌∷◌, map, length, refl, ap, inl, inr, arith, ◌∙◌, subst}
 use Rattle.std.proofs.lemmas.Fmt.{decimal_digit}
-use Rattle.cell_netlist.specs.Lists.{IsIn, bit_at}
+use Rattle.pulse_ids.specs.Lists.{IsIn, bit_at}
 use Rattle.cell_netlist.specs.RailEquations.{LatchState, CellEquation, IsRails, first_state, next_state, IsNetRun}
-use Rattle.cell_netlist.specs.Examples.{toggle, two_empty, ToggleBits, TextsAreThese}
+use Rattle.cell_netlist.specs.ExampleNetlists.{toggle}
+use Rattle.cell_netlist.specs.ExampleRuns.{two_empty, ToggleBits}
+use Rattle.cell_netlist.specs.ExampleTexts.{TextsAreThese}
 
 -- each item of a list has P
 abbrev Each : {X : Type 0} → (X → Type 0) → List X → Type 0

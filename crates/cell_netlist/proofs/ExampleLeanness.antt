@@ -5,16 +5,18 @@ use Rattle.cell_netlist.specs.declared.kinds.Gate.{Gate}
 use Rattle.cell_netlist.specs.declared.kinds.Gate.TheVariants as gates
 use Rattle.cell_netlist.specs.declared.kinds.Role.TheVariants.{Back, Const}
 use Rattle.cell_netlist.specs.declared.lines.Cell.{Cell}
-use Rattle.cell_netlist.specs.Lists.{HowManyHave}
-use Rattle.cell_netlist.specs.NetlistLines.{NetlistLines, IsRoot}
+use Rattle.pulse_ids.specs.Lists.{HowManyHave}
+use Rattle.cell_netlist.specs.Netlists.{PlainNetlist, IsRoot}
 use Rattle.cell_netlist.specs.Lean.{Useful, of_output, of_cell, IsGateOf, ReadsRoots, IsLean, leaves}
-use Rattle.cell_netlist.specs.Tests.{is_none_driven_twice}
-use Rattle.cell_netlist.specs.LeanTests.{climbed, root_of}
-use Rattle.cell_netlist.specs.Examples.{rail, la, fa, droc, on, chain_of_four, tree_of_four, pair_twice, root_twice, port_twice, with_constant, droc_twice, useless, LeannessIsSeen}
-use Rattle.cell_netlist.proofs.SoundTests.{sound_test}
-use Rattle.cell_netlist.proofs.LeanTests.{root_climbed, lean_test}
+use Rattle.cell_netlist.specs.Decisions.{is_none_driven_twice}
+use Rattle.cell_netlist.specs.LeanDecisions.{climbed, root_of}
+use Rattle.cell_netlist.specs.ExampleNetlists.{rail, la, fa, droc, on}
+use Rattle.cell_netlist.specs.ExampleLeanness.{chain_of_four, tree_of_four, pair_twice, root_twice, port_twice, with_constant, droc_twice, useless, LeannessIsSeen}
+use Rattle.cell_netlist.proofs.SoundDecisions.{is_sound-at}
+use Rattle.cell_netlist.proofs.Roots.{root_climbed}
+use Rattle.cell_netlist.proofs.LeanDecisions.{is_lean-at}
 
-module _ (net : NetlistLines) (once : is_none_driven_twice net ≡ true) where
+module _ (net : PlainNetlist) (once : is_none_driven_twice net ≡ true) where
   root-at : (wire : ℕ) → is_some (climbed net wire) ≡ true → IsRoot net (root_of net wire) wire
   root-at wire e = (root_climbed net once wire e).0
 
@@ -74,12 +76,12 @@ none_useful _ (of_cell wire cell h read out o useful) = none_useful out useful
 
 pub leanness_is_seen : LeannessIsSeen
 leanness_is_seen = (
-  record { sound = sound_test chain_of_four refl; not_lean = chain_is_not_lean },
-  (sound_test tree_of_four refl, lean_test tree_of_four refl),
-  record { sound = sound_test pair_twice refl; not_lean = pair_is_not_lean },
-  record { sound = sound_test root_twice refl; not_lean = root_is_not_lean },
-  record { sound = sound_test port_twice refl; not_lean = port_is_not_lean },
-  record { sound = sound_test with_constant refl; not_lean = constant_is_not_lean },
-  record { sound = sound_test droc_twice refl; not_lean = droc_is_not_lean },
-  record { sound = sound_test useless refl; not_lean = λ lean. none_useful 0 (lean.useful 0 (omega arith)) },
+  record { sound = is_sound-at chain_of_four refl; not_lean = chain_is_not_lean },
+  (is_sound-at tree_of_four refl, is_lean-at tree_of_four refl),
+  record { sound = is_sound-at pair_twice refl; not_lean = pair_is_not_lean },
+  record { sound = is_sound-at root_twice refl; not_lean = root_is_not_lean },
+  record { sound = is_sound-at port_twice refl; not_lean = port_is_not_lean },
+  record { sound = is_sound-at with_constant refl; not_lean = constant_is_not_lean },
+  record { sound = is_sound-at droc_twice refl; not_lean = droc_is_not_lean },
+  record { sound = is_sound-at useless refl; not_lean = λ lean. none_useful 0 (lean.useful 0 (omega arith)) },
 )

@@ -3,9 +3,10 @@ use Rattle.std.proofs.Common.{ℕ, Bool, true, false, [], ◌∷◌, refl, inl, 
 use Rattle.pulse_ids.specs.declared.literals.Sign.TheVariants.{Pos}
 use Rattle.cell_netlist.specs.declared.kinds.Role.TheVariants.{Front, Back, Const}
 use Rattle.cell_netlist.specs.declared.lines.Cell.{Cell}
-use Rattle.cell_netlist.specs.Lists.{IsIn}
+use Rattle.pulse_ids.specs.Lists.{IsIn}
 use Rattle.cell_netlist.specs.Sound.{IsDrocOf, IsFrontTo, IsBackFrom}
-use Rattle.cell_netlist.specs.Examples.{rail, la, split, droc, on, unused, plain, RulesAreRefused, FirstIsRefused}
+use Rattle.cell_netlist.specs.ExampleNetlists.{rail, la, split, droc, on, unused, plain}
+use Rattle.cell_netlist.specs.ExampleRefusals.{RulesAreRefused, FirstIsRefused}
 use Rattle.cell_netlist.proofs.Refusals.{first_refusal, grounded-known}
 
 -- a back with no front, and a front with no back

@@ -1,19 +1,20 @@
 -- The examples' runs, by computation.
 use Rattle.std.proofs.Common.{[], ◌∷◌, refl}
 use Rattle.cell_netlist.specs.declared.kinds.Phase.TheVariants.{Excite, Relax}
-use Rattle.cell_netlist.specs.Examples.{toggle, two_empty, ToggleIsSound, ToggleRuns, half_adder, ones, HalfAdderIsSound, HalfAdderIsLean, HalfAdderRuns, HalfAdderPlaces, HalfAdderAsks, constant_one, ConstantRuns, UpsetsAreSeen}
-use Rattle.cell_netlist.proofs.SoundTests.{sound_test}
-use Rattle.cell_netlist.proofs.LeanTests.{lean_test}
-use Rattle.cell_netlist.proofs.Played.{settles, rests, phases}
+use Rattle.cell_netlist.specs.ExampleNetlists.{toggle, half_adder, constant_one}
+use Rattle.cell_netlist.specs.ExampleRuns.{two_empty, ToggleIsSound, ToggleRuns, ones, HalfAdderIsSound, HalfAdderIsLean, HalfAdderRuns, HalfAdderPlaces, HalfAdderAsks, ConstantRuns, UpsetsAreSeen}
+use Rattle.cell_netlist.proofs.SoundDecisions.{is_sound-at}
+use Rattle.cell_netlist.proofs.LeanDecisions.{is_lean-at}
+use Rattle.cell_netlist.proofs.ComputedRuns.{settles, rests, phases}
 
 pub toggle_is_sound : ToggleIsSound
-toggle_is_sound = sound_test toggle refl
+toggle_is_sound = is_sound-at toggle refl
 
 pub half_adder_is_sound : HalfAdderIsSound
-half_adder_is_sound = sound_test half_adder refl
+half_adder_is_sound = is_sound-at half_adder refl
 
 pub half_adder_is_lean : HalfAdderIsLean
-half_adder_is_lean = lean_test half_adder refl
+half_adder_is_lean = is_lean-at half_adder refl
 
 pub toggle_runs : ToggleRuns
 toggle_runs =
@@ -45,7 +46,7 @@ half_adder_asks = (refl, refl, refl)
 
 pub constant_runs : ConstantRuns
 constant_runs = (
-  sound_test constant_one refl,
+  is_sound-at constant_one refl,
   settles constant_one two_empty (phases ((0 ∷ []) ∷ [])) 0 Excite _ _ _ refl refl refl refl refl refl,
   rests constant_one two_empty (phases ((0 ∷ []) ∷ (1 ∷ []) ∷ [])) 0 Relax _ _ _ refl refl refl refl refl refl refl,
   settles constant_one two_empty (phases ((0 ∷ []) ∷ (1 ∷ []) ∷ (0 ∷ []) ∷ [])) 1 Excite _ _ _ refl refl refl refl refl refl,

@@ -1,49 +1,32 @@
 -- A sound netlist breaks no rule, and a netlist has at most one first refusal.
-use Rattle.std.proofs.Common.{◌≡◌, ◌<◌, ◌≤◌, ℕ, ap, sym, ◌∙◌, inl, inr, arith, refl, if◌then◌else◌, ◌==◌}
+use Rattle.std.proofs.Common.{◌≡◌, ◌≤◌, ℕ, ap, sym, ◌∙◌, inl, inr, arith, refl, if◌then◌else◌, ◌==◌}
 use Rattle.std.proofs.lemmas.Bool.{cases_eq, cases_lt}
 use Rattle.pulse_ids.specs.Ids.{numbered}
 use Rattle.cell_netlist.specs.declared.unsound.RailLine.TheVariants.{Input, Output}
 use Rattle.cell_netlist.specs.declared.unsound.Unsound.{Unsound}
 use Rattle.cell_netlist.specs.declared.unsound.Unsound.TheVariants.{WireUndriven, WireTwiceDriven, WireUnread, WireTwiceRead, PortRange, RailTwice, Loop, LooseDroc, WrongPreload}
-use Rattle.cell_netlist.specs.Lists.{occurrences}
-use Rattle.cell_netlist.specs.NetlistLines.{NetlistLines, driven, read, number_of_wires}
+use Rattle.pulse_ids.specs.Lists.{occurrences}
+use Rattle.cell_netlist.specs.Netlists.{PlainNetlist, driven, read}
 use Rattle.cell_netlist.specs.Sound.{IsSound, Breaks, rule_of, number_in, IsFirstUnsound}
-use Rattle.cell_netlist.proofs.ListLemmas.{IsIn-at}
-use Rattle.cell_netlist.proofs.LeanTests.{occurrences-past, wire_bound-append}
+use Rattle.pulse_ids.proofs.CallerLemmas.{IsIn-place}
+use Rattle.cell_netlist.proofs.WireBounds.{driven_within, read_within}
 
--- a number that a netlist drives or reads is one of its wires
-pub driven_within : (net : NetlistLines) (w : ℕ) → 1 ≤ occurrences w (driven net) → w < number_of_wires net
-driven_within net w some = elim (cases_lt w (number_of_wires net)) [
-  | inl lt ↦ lt
-  | inr ge ↦
-      let both = wire_bound-append (driven net) (read net) in
-      let none = occurrences-past w (driven net) (omega arith) in absurd (omega arith)
-]
-
-pub read_within : (net : NetlistLines) (w : ℕ) → 1 ≤ occurrences w (read net) → w < number_of_wires net
-read_within net w some = elim (cases_lt w (number_of_wires net)) [
-  | inl lt ↦ lt
-  | inr ge ↦
-      let both = wire_bound-append (driven net) (read net) in
-      let none = occurrences-past w (read net) (omega arith) in absurd (omega arith)
-]
-
-pub sound_unbroken : (net : NetlistLines) → IsSound net → (unsound : Unsound) → Breaks net unsound → ⊥
-sound_unbroken net sound (WireUndriven wire) b = let t = sound.all_driven wire.number b.0 in omega (arith, b.1)
+pub sound_unbroken : (net : PlainNetlist) → IsSound net → (unsound : Unsound) → Breaks net unsound → ⊥
+sound_unbroken net sound (WireUndriven wire) b = let t = sound.wired.all_driven wire.number b.0 in omega (arith, b.1)
 sound_unbroken net sound (WireTwiceDriven wire) b =
     let some : 1 ≤ occurrences wire.number (driven net) = omega (arith, b) in
-    let t = sound.none_driven_twice wire.number (driven_within net wire.number some) in omega (arith, b)
-sound_unbroken net sound (WireUnread wire) b = let t = sound.all_read wire.number b.0 in omega (arith, b.1)
+    let t = sound.wired.none_driven_twice wire.number (driven_within net wire.number some) in omega (arith, b)
+sound_unbroken net sound (WireUnread wire) b = let t = sound.wired.all_read wire.number b.0 in omega (arith, b.1)
 sound_unbroken net sound (WireTwiceRead wire) b =
     let some : 1 ≤ occurrences wire.number (read net) = omega (arith, b) in
-    let t = sound.none_read_twice wire.number (read_within net wire.number some) in omega (arith, b)
-sound_unbroken net sound (PortRange (Input id)) b = let t = sound.input_ports b.0 (IsIn-at b.0 _ id.number b.1) in omega (arith, b.2)
-sound_unbroken net sound (PortRange (Output id)) b = let t = sound.output_ports b.0 (IsIn-at b.0 _ id.number b.1) in omega (arith, b.2)
+    let t = sound.wired.none_read_twice wire.number (read_within net wire.number some) in omega (arith, b)
+sound_unbroken net sound (PortRange (Input id)) b = let t = sound.input_ports b.0 (IsIn-place b.0 _ id.number b.1) in omega (arith, b.2)
+sound_unbroken net sound (PortRange (Output id)) b = let t = sound.output_ports b.0 (IsIn-place b.0 _ id.number b.1) in omega (arith, b.2)
 sound_unbroken net sound (RailTwice id) b = sound.none_twice b.0 id.number b.1 b.2 b.3 b.4 b.5 b.6 b.7
-sound_unbroken net sound (Loop id) b = b.5 (sound.grounded b.0 (IsIn-at b.0 _ id.number b.1) b.2 b.3 b.4)
-sound_unbroken net sound (LooseDroc id) b = b.2 (sound.roles b.0 (IsIn-at b.0 _ id.number b.1))
+sound_unbroken net sound (Loop id) b = b.5 (sound.grounded b.0 (IsIn-place b.0 _ id.number b.1) b.2 b.3 b.4)
+sound_unbroken net sound (LooseDroc id) b = b.2 (sound.roles b.0 (IsIn-place b.0 _ id.number b.1))
 sound_unbroken net sound (WrongPreload id) b =
-    b.7 (sound.preloads b.2 b.4 b.3 b.6 (record { back = b.0; among = IsIn-at b.0 _ id.number b.1; role = b.5 }))
+    b.7 (sound.preloads b.2 b.4 b.3 b.6 (record { back = b.0; among = IsIn-place b.0 _ id.number b.1; role = b.5 }))
 
 -- the refusal of a place in the order of the rules, at a number
 abbrev pub refusal_at : ℕ → ℕ → Unsound
@@ -71,7 +54,7 @@ same_place : (one other : Unsound) → rule_of one ≡ rule_of other → number_
 same_place one other rule number =
     refusal_is one ∙ ap (λ r. refusal_at r (number_in one)) rule ∙ ap (λ n. refusal_at (rule_of other) n) number ∙ sym (refusal_is other)
 
-pub first_refusals_equal : (net : NetlistLines) (one other : Unsound) → IsFirstUnsound net one → IsFirstUnsound net other → one ≡ other
+pub first_refusals_equal : (net : PlainNetlist) (one other : Unsound) → IsFirstUnsound net one → IsFirstUnsound net other → one ≡ other
 first_refusals_equal net one other of_one of_other = elim (cases_lt (rule_of one) (rule_of other)) [
   | inl lt ↦ absurd (of_other.first one of_one.breaks (inl lt))
   | inr ge ↦ elim (cases_eq (rule_of one) (rule_of other)) [

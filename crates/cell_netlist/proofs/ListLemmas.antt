@@ -1,9 +1,13 @@
 -- Membership, tests on lists and numbers, and what they tell.
-use Rattle.std.proofs.Common.{◌≡◌, ◌<◌, ◌⊎◌, ℕ, zero, suc, Bool, true, Option, Some, None, List, [], ◌∷◌, ◌++◌, map, slice_get, ap, sym, subst, inl, inr, arith, refl}
-use Rattle.std.specs.List.{flat_map, list_any, list_all}
+use Rattle.std.proofs.Common.{◌≡◌, ◌<◌, ℕ, zero, suc, Bool, true, Option, Some, None, List, [], ◌∷◌, slice_get, sym, subst, inl, inr, arith, refl}
+use Rattle.std.specs.List.{list_any, list_all}
 use Rattle.std.proofs.lemmas.Bool.{and_parts, and_from, or_cases, or_left, or_right, eqb-true, eq-eqb, cases_eq}
-use Rattle.cell_netlist.specs.Lists.{IsIn}
-use Rattle.cell_netlist.specs.Tests.{all_below, all_pairs, is_some_with, has}
+use Rattle.pulse_ids.specs.Lists.{IsIn}
+use Rattle.cell_netlist.specs.Decisions.{all_below, all_pairs, is_some_with, has}
+use Rattle.pulse_ids.proofs.CallerLemmas.{IsIn-place, place_of}
+use Rattle.std.proofs.Common.{◌≡◌, ◌<◌, ◌⊎◌, ℕ, zero, suc, Bool, true, Option, Some, None, List, slice_get, sym, subst, inl, inr, arith, refl}
+use Rattle.std.specs.List.{list_all}
+use Rattle.std.proofs.lemmas.Bool.{cases_eq}
 
 -- what a test of all numbers below n tells
 pub all_below-at : (test : ℕ → Bool) (n : ℕ) → all_below test n ≡ true → (k : ℕ) → k < n → test k ≡ true
@@ -18,32 +22,6 @@ all_below-from test zero all = refl
 all_below-from test (suc n) all = and_from _ _ (all n (omega arith)) (all_below-from test n (λ k lt. all k (omega arith)))
 
 module _ {X : Type 0} where
-  -- the items of a front and of a rest
-  pub IsIn-parts : (x : X) (xs ys : List X) → IsIn x (xs ++ ys) → IsIn x xs ⊎ IsIn x ys
-  IsIn-parts x [] ys h = inr h
-  IsIn-parts x (z ∷ xs) ys (inl e) = inl (inl e)
-  IsIn-parts x (z ∷ xs) ys (inr h) = elim (IsIn-parts x xs ys h) [ inl g ↦ inl (inr g) | inr g ↦ inr g ]
-
-  pub IsIn-left : (x : X) (xs ys : List X) → IsIn x xs → IsIn x (xs ++ ys)
-  IsIn-left x [] ys h = absurd h
-  IsIn-left x (z ∷ xs) ys (inl e) = inl e
-  IsIn-left x (z ∷ xs) ys (inr h) = inr (IsIn-left x xs ys h)
-
-  pub IsIn-right : (x : X) (xs ys : List X) → IsIn x ys → IsIn x (xs ++ ys)
-  IsIn-right x [] ys h = h
-  IsIn-right x (z ∷ xs) ys h = inr (IsIn-right x xs ys h)
-
-  -- an item stands at a place
-  pub IsIn-at : (x : X) (xs : List X) (i : ℕ) → slice_get xs i ≡ Some x → IsIn x xs
-  IsIn-at x [] i e = absurd cc
-  IsIn-at x (y ∷ xs) zero e = inl cc
-  IsIn-at x (y ∷ xs) (suc i) e = inr (IsIn-at x xs i e)
-
-  pub place_of : (x : X) (xs : List X) → IsIn x xs → (i : ℕ) × (slice_get xs i ≡ Some x)
-  place_of x [] h = absurd h
-  place_of x (y ∷ xs) (inl e) = (0, ap (λ z. Some z) e)
-  place_of x (y ∷ xs) (inr h) = let found = place_of x xs h in (suc found.0, found.1)
-
   -- what a test of all items tells
   pub list_all-at : (test : X → Bool) (xs : List X) → list_all test xs ≡ true → (x : X) → IsIn x xs → test x ≡ true
   list_all-at test [] e x h = absurd h
@@ -74,7 +52,7 @@ module _ {X : Type 0} where
   all_pairs-at test (z ∷ xs) e i zero x y lt at_i at_j = absurd (omega arith)
   all_pairs-at test (z ∷ xs) e zero (suc j) x y lt at_i at_j =
       let same : z ≡ x = cc in
-      subst (λ w. test w y ≡ true) same (list_all-at (test z) xs (and_parts _ _ e).0 y (IsIn-at y xs j at_j))
+      subst (λ w. test w y ≡ true) same (list_all-at (test z) xs (and_parts _ _ e).0 y (IsIn-place y xs j at_j))
   all_pairs-at test (z ∷ xs) e (suc i) (suc j) x y lt at_i at_j = all_pairs-at test xs (and_parts _ _ e).1 i j x y (omega arith) at_i at_j
 
   pub all_pairs-from : (test : X → X → Bool) (xs : List X)
@@ -89,30 +67,6 @@ module _ {X : Type 0} where
   is_some_with-at test None e = absurd cc
   is_some_with-at test (Some x) e = (x, refl, e)
 
--- an item of a mapped list comes from one
-pub IsIn-map : {X Y : Type 0} (f : X → Y) (y : Y) (xs : List X) → IsIn y (map f xs) → (x : X) × IsIn x xs × (f x ≡ y)
-IsIn-map f y [] h = absurd h
-IsIn-map f y (x ∷ xs) (inl e) = (x, inl refl, e)
-IsIn-map f y (x ∷ xs) (inr h) = let found = IsIn-map f y xs h in (found.0, inr found.1, found.2)
-
-pub IsIn-mapped : {X Y : Type 0} (f : X → Y) (x : X) (xs : List X) → IsIn x xs → IsIn (f x) (map f xs)
-IsIn-mapped f x [] h = absurd h
-IsIn-mapped f x (y ∷ xs) (inl e) = inl (ap f e)
-IsIn-mapped f x (y ∷ xs) (inr h) = inr (IsIn-mapped f x xs h)
-
--- an item of the lists that a function gives
-pub IsIn-flat_map : {X Y : Type 0} (f : X → List Y) (y : Y) (xs : List X) → IsIn y (flat_map f xs) → (x : X) × IsIn x xs × IsIn y (f x)
-IsIn-flat_map f y [] h = absurd h
-IsIn-flat_map f y (x ∷ xs) h = elim (IsIn-parts y (f x) (flat_map f xs) h) [
-  | inl here ↦ (x, inl refl, here)
-  | inr later ↦ let found = IsIn-flat_map f y xs later in (found.0, inr found.1, found.2)
-]
-
-pub IsIn-flat_mapped : {X Y : Type 0} (f : X → List Y) (x : X) (y : Y) (xs : List X) → IsIn x xs → IsIn y (f x) → IsIn y (flat_map f xs)
-IsIn-flat_mapped f x y [] h g = absurd h
-IsIn-flat_mapped f x y (z ∷ xs) (inl e) g = IsIn-left y (f z) (flat_map f xs) (subst (λ w. IsIn y (f w)) (sym e) g)
-IsIn-flat_mapped f x y (z ∷ xs) (inr h) g = IsIn-right y (f z) (flat_map f xs) (IsIn-flat_mapped f x y xs h g)
-
 -- a number that is tested to stand in a list
 pub has-at : (n : ℕ) (xs : List ℕ) → has n xs ≡ true → IsIn n xs
 has-at n [] e = absurd cc
@@ -122,3 +76,41 @@ pub has-from : (n : ℕ) (xs : List ℕ) → IsIn n xs → has n xs ≡ true
 has-from n [] h = absurd h
 has-from n (x ∷ xs) (inl e) = or_left _ _ (eq-eqb _ _ e)
 has-from n (x ∷ xs) (inr h) = or_right _ _ (has-from n xs h)
+
+-- the first number below a bound that has a property, where each can be decided when none before it has it
+pub first_of : (P : ℕ → Type 0) (m : ℕ) → ((n : ℕ) → n < m → ((k : ℕ) → k < n → P k → ⊥) → P n ⊎ (P n → ⊥))
+    → ((n : ℕ) → n < m → P n → ⊥) ⊎ ((n : ℕ) × (n < m) × P n × ((k : ℕ) → k < n → P k → ⊥))
+first_of P zero decide = inl (λ n lt p. absurd (omega (arith, lt)))
+first_of P (suc m) decide = elim (first_of P m (λ n lt before. decide n (omega (arith, lt)) before)) [
+  | inr found ↦ let lt : found.0 < m = found.1 in inr (found.0, omega arith, found.2, found.3)
+  | inl none ↦ elim (decide m (omega arith) none) [
+    | inl here ↦ inr (m, omega arith, here, none)
+    | inr without ↦ inl (λ n lt p. last n lt p none without)
+  ]
+]
+  where
+    last : (n : ℕ) → n < suc m → P n → ((k : ℕ) → k < m → P k → ⊥) → (P m → ⊥) → ⊥
+    last n lt p none without = elim (cases_eq n m) [
+      | inl same ↦ without (subst P same p)
+      | inr other ↦ none n (omega arith) p
+    ]
+
+module _ {X : Type 0} where
+  -- a value is there or not
+  pub some_or_none : (o : Option X) → ((x : X) × (o ≡ Some x)) ⊎ (o ≡ None)
+  some_or_none None = inr refl
+  some_or_none (Some x) = inl (x, refl)
+
+  -- whether the item at a place has a property
+  pub decide_item : (xs : List X) (i : ℕ) (P : X → Type 0) → ((x : X) → IsIn x xs → P x ⊎ (P x → ⊥))
+      → ((x : X) × (slice_get xs i ≡ Some x) × P x) ⊎ (((x : X) × (slice_get xs i ≡ Some x) × P x) → ⊥)
+  decide_item xs i P decide = elim (some_or_none (slice_get xs i)) [
+    | inr none ↦ inr (λ found. let e = found.1 in absurd cc)
+    | inl some ↦ elim (decide some.0 (IsIn-place some.0 xs i some.1)) [
+      | inl has ↦ inl (some.0, some.1, has)
+      | inr without ↦ inr (λ found.
+          let e = found.1 in
+          let its = some.1 in
+          let same : found.0 ≡ some.0 = cc in without (subst P same found.2))
+    ]
+  ]

@@ -1,5 +1,5 @@
 -- What a search among names of rising ports finds.
-use Rattle.std.proofs.Common.{◌≡◌, ◌<◌, ◌≤◌, ◌+◌, ℕ, zero, suc, Some, None, Ok, Err, List, [], ◌∷◌, length, get_or, ap, sym, inl, inr, arith, refl}
+use Rattle.std.proofs.Common.{◌≡◌, ◌<◌, ◌≤◌, ◌+◌, ℕ, zero, suc, Some, None, Ok, Err, List, [], ◌∷◌, ◌++◌, length, get_or, ap, sym, inl, inr, arith, refl}
 use Rattle.std.proofs.lemmas.Bool.{cases_lt}
 use Rattle.std.specs.List.Sorted.{IsBinarySearchResult, IsNonDecreasingBy}
 use Rattle.std.specs.Ordering.{nat_cmp, ordering_index}
@@ -7,7 +7,15 @@ use Rattle.std.proofs.lemmas.Cmp.{ranked}
 use Rattle.std.proofs.lemmas.List.Sorted.{IsNonDecreasingBy-from_default}
 use Rattle.std.proofs.lemmas.Bool.Decides.{nat_tests}
 use Rattle.std.proofs.lemmas.Grind.{common_steps}
-use Rattle.cell_netlist.specs.Names.{AreNamesFrom, name_at}
+use Rattle.pulse_ids.specs.Names.{IsPortName}
+use Rattle.cell_netlist.specs.Names.{IsAboveAll, AreNamesFrom, name_at}
+
+-- a higher port named too
+pub AreNamesFrom-behind : (low ports port : ℕ) (names : List (ℕ × List ℕ)) (bytes : List ℕ) → AreNamesFrom low ports names → low ≤ port → IsAboveAll port names
+    → port < ports → IsPortName bytes → AreNamesFrom low ports (names ++ (port, bytes) ∷ [])
+AreNamesFrom-behind low ports port [] bytes h least above range name = (least, range, name, tt)
+AreNamesFrom-behind low ports port (named ∷ rest) bytes h least above range name =
+    (h.0, h.1, h.2, AreNamesFrom-behind (named.0 + 1) ports port rest bytes h.3 (omega (arith, above named (inl refl))) (λ n i. above n (inr i)) range name)
 
 module _ (d : ℕ × List ℕ) where
   -- no port is below the lowest one

@@ -11,14 +11,15 @@ use Rattle.cell_netlist.specs.declared.lines.Driver.{Driver}
 use Rattle.cell_netlist.specs.declared.lines.Driver.TheVariants as drivers_of
 use Rattle.cell_netlist.specs.declared.lines.Reader.{Reader}
 use Rattle.cell_netlist.specs.declared.lines.Reader.TheVariants.{A, B, From, Feed, Output}
-use Rattle.cell_netlist.specs.Lists.{occurrences}
-use Rattle.cell_netlist.specs.NetlistLines.{NetlistLines, wire_of, used, outs, reads, driven, read}
-use Rattle.cell_netlist.specs.Places.{At, place_if_used, driving, reading, cell_places, rail_places, on_wire, drivers, readers}
-use Rattle.cell_netlist.specs.World.{Content, State, Reaction, silent, reaction, Reactions, both, reactions, counted_after, Delivered, deliver, moved}
+use Rattle.pulse_ids.specs.Lists.{occurrences}
+use Rattle.cell_netlist.specs.Netlists.{PlainNetlist, wire_of, used, outs, reads, driven, read}
+use Rattle.cell_netlist.specs.Places.{At, IsReaderOf, place_if_used, driving, reading, cell_places, rail_places, on_wire, drivers, readers}
+use Rattle.cell_netlist.specs.declared.kinds.CellState.{CellState}
+use Rattle.cell_netlist.specs.World.{State, Reaction, silent, reaction, Reactions, both, reactions, counted_after, Delivered, deliver, moved}
 use Rattle.cell_netlist.specs.OneReader.{port_reaction, reaction_at, after_reaction, delivered_to}
 
 module _ {Place : Type 0} (w : ℕ) where
-  -- the places of a front and of a rest
+  -- the places of two lists
   pub on_wire-append : (xs ys : List (At Place)) → on_wire w (xs ++ ys) ≡ on_wire w xs ++ on_wire w ys
   on_wire-append [] ys = refl
   on_wire-append (at ∷ xs) ys = elim (cases_Bool (w == at.0)) [
@@ -67,7 +68,7 @@ reading-wires c (Fa a b out) = refl
 reading-wires c (Split from left right) = refl
 reading-wires c (Droc role preload feed q n) = refl
 
-pub drivers-count : (net : NetlistLines) (wire : ℕ) → length (drivers net wire) ≡ occurrences wire (driven net)
+pub drivers-count : (net : PlainNetlist) (wire : ℕ) → length (drivers net wire) ≡ occurrences wire (driven net)
 drivers-count net wire =
     let rails = rail_places (λ r. drivers_of.Input (numbered r)) 0 net.input_rails in
     let cells = cell_places driving 0 net.cells in
@@ -75,7 +76,7 @@ drivers-count net wire =
     let of_cells = cell_places-wires driving outs driving-wires 0 net.cells in
     on_wire-length wire (rails ++ cells) ∙ ap (λ ws. occurrences wire ws) (rw (map-both (λ at. at.0) rails cells, of_rails, of_cells) refl)
 
-pub readers-count : (net : NetlistLines) (wire : ℕ) → length (readers net wire) ≡ occurrences wire (read net)
+pub readers-count : (net : PlainNetlist) (wire : ℕ) → length (readers net wire) ≡ occurrences wire (read net)
 readers-count net wire =
     let cells = cell_places reading 0 net.cells in
     let rails = rail_places (λ r. Output (numbered r)) 0 net.output_rails in
@@ -83,18 +84,10 @@ readers-count net wire =
     let of_rails = rail_places-wires wire (λ r. Output (numbered r)) 0 net.output_rails in
     on_wire-length wire (cells ++ rails) ∙ ap (λ ws. occurrences wire ws) (rw (map-both (λ at. at.0) cells rails, of_cells, of_rails) refl)
 
--- a reading place of the cell of a number
-abbrev IsReaderOf : Reader → ℕ → Type 0
-IsReaderOf (A id) c = id.number ≡ c
-IsReaderOf (B id) c = id.number ≡ c
-IsReaderOf (From id) c = id.number ≡ c
-IsReaderOf (Feed id) c = id.number ≡ c
-IsReaderOf (Output id) c = ⊥
-
--- contents with one cell's reaction
-abbrev in_place : List Content → ℕ → Option Reaction → Option Reactions
-in_place contents c None = None
-in_place contents c (Some reacted) = Some (record { contents = slice_set contents c reacted.content; emitted = reacted.emitted })
+-- cell_states with one cell's reaction
+abbrev in_place : List CellState → ℕ → Option Reaction → Option Reactions
+in_place cell_states c None = None
+in_place cell_states c (Some reacted) = Some (record { cell_states = slice_set cell_states c reacted.cell_state; emitted = reacted.emitted })
 
 -- a list of one item is an empty list and it, or it and an empty list
 one_of_two : {X : Type 0} (xs ys : List X) (x : X) → xs ++ ys ≡ x ∷ [] → ((xs ≡ []) × (ys ≡ x ∷ [])) ⊎ ((xs ≡ x ∷ []) × (ys ≡ []))
@@ -109,113 +102,113 @@ none_of_two (x ∷ xs) ys e = absurd cc
 
 module _ (w : ℕ) where
   -- a cell that does not read the wire does nothing
-  silent-cell : (c : ℕ) (cell : Cell) (content : Content) → on_wire w (reading c cell) ≡ [] → reaction cell content w ≡ silent content
-  silent-cell c (La a b out) content e = elim (cases_Bool (w == a.number)) [
+  silent-cell : (c : ℕ) (cell : Cell) (cell_state : CellState) → on_wire w (reading c cell) ≡ [] → reaction cell cell_state w ≡ silent cell_state
+  silent-cell c (La a b out) cell_state e = elim (cases_Bool (w == a.number)) [
     | inl hit ↦ let g = rw hit at e in absurd cc
     | inr miss ↦ elim (cases_Bool (w == b.number)) [ inl hit ↦ let g = rw (miss, hit) at e in absurd cc | inr none ↦ rw (miss, none) refl ]
   ]
-  silent-cell c (Fa a b out) content e = elim (cases_Bool (w == a.number)) [
+  silent-cell c (Fa a b out) cell_state e = elim (cases_Bool (w == a.number)) [
     | inl hit ↦ let g = rw hit at e in absurd cc
     | inr miss ↦ elim (cases_Bool (w == b.number)) [ inl hit ↦ let g = rw (miss, hit) at e in absurd cc | inr none ↦ rw (miss, none) refl ]
   ]
-  silent-cell c (Split from left right) content e =
+  silent-cell c (Split from left right) cell_state e =
       elim (cases_Bool (w == from.number)) [ inl hit ↦ let g = rw hit at e in absurd cc | inr miss ↦ rw miss refl ]
-  silent-cell c (Droc role preload feed q n) content e =
+  silent-cell c (Droc role preload feed q n) cell_state e =
       elim (cases_Bool (w == feed.number)) [ inl hit ↦ let g = rw hit at e in absurd cc | inr miss ↦ rw miss refl ]
 
   -- a cell that reads the wire once does what its port says
-  one-cell : (c : ℕ) (cell : Cell) (content : Content) (reader : Reader) → on_wire w (reading c cell) ≡ reader ∷ []
-      → IsReaderOf reader c × (reaction cell content w ≡ port_reaction cell content reader)
-  one-cell c (La a b out) content reader e = elim (cases_Bool (w == a.number)) [
+  one-cell : (c : ℕ) (cell : Cell) (cell_state : CellState) (reader : Reader) → on_wire w (reading c cell) ≡ reader ∷ []
+      → IsReaderOf reader c × (reaction cell cell_state w ≡ port_reaction cell cell_state reader)
+  one-cell c (La a b out) cell_state reader e = elim (cases_Bool (w == a.number)) [
     | inl at_a ↦ elim (cases_Bool (w == b.number)) [
       | inl at_b ↦ let g = rw (at_a, at_b) at e in absurd cc
       | inr off_b ↦
           let g : A (numbered c) ∷ [] ≡ reader ∷ [] = rw (at_a, off_b) at e in
           let same : A (numbered c) ≡ reader = cc in
-          subst (λ r. IsReaderOf r c × (reaction (La a b out) content w ≡ port_reaction (La a b out) content r)) same (refl, rw at_a refl)
+          subst (λ r. IsReaderOf r c × (reaction (La a b out) cell_state w ≡ port_reaction (La a b out) cell_state r)) same (refl, rw at_a refl)
     ]
     | inr off_a ↦ elim (cases_Bool (w == b.number)) [
       | inl at_b ↦
           let g : B (numbered c) ∷ [] ≡ reader ∷ [] = rw (off_a, at_b) at e in
           let same : B (numbered c) ≡ reader = cc in
-          subst (λ r. IsReaderOf r c × (reaction (La a b out) content w ≡ port_reaction (La a b out) content r)) same (refl, rw (off_a, at_b) refl)
+          subst (λ r. IsReaderOf r c × (reaction (La a b out) cell_state w ≡ port_reaction (La a b out) cell_state r)) same (refl, rw (off_a, at_b) refl)
       | inr off_b ↦ let g = rw (off_a, off_b) at e in absurd cc
     ]
   ]
-  one-cell c (Fa a b out) content reader e = elim (cases_Bool (w == a.number)) [
+  one-cell c (Fa a b out) cell_state reader e = elim (cases_Bool (w == a.number)) [
     | inl at_a ↦ elim (cases_Bool (w == b.number)) [
       | inl at_b ↦ let g = rw (at_a, at_b) at e in absurd cc
       | inr off_b ↦
           let g : A (numbered c) ∷ [] ≡ reader ∷ [] = rw (at_a, off_b) at e in
           let same : A (numbered c) ≡ reader = cc in
-          subst (λ r. IsReaderOf r c × (reaction (Fa a b out) content w ≡ port_reaction (Fa a b out) content r)) same (refl, rw at_a refl)
+          subst (λ r. IsReaderOf r c × (reaction (Fa a b out) cell_state w ≡ port_reaction (Fa a b out) cell_state r)) same (refl, rw at_a refl)
     ]
     | inr off_a ↦ elim (cases_Bool (w == b.number)) [
       | inl at_b ↦
           let g : B (numbered c) ∷ [] ≡ reader ∷ [] = rw (off_a, at_b) at e in
           let same : B (numbered c) ≡ reader = cc in
-          subst (λ r. IsReaderOf r c × (reaction (Fa a b out) content w ≡ port_reaction (Fa a b out) content r)) same (refl, rw (off_a, at_b) refl)
+          subst (λ r. IsReaderOf r c × (reaction (Fa a b out) cell_state w ≡ port_reaction (Fa a b out) cell_state r)) same (refl, rw (off_a, at_b) refl)
       | inr off_b ↦ let g = rw (off_a, off_b) at e in absurd cc
     ]
   ]
-  one-cell c (Split from left right) content reader e = elim (cases_Bool (w == from.number)) [
+  one-cell c (Split from left right) cell_state reader e = elim (cases_Bool (w == from.number)) [
     | inl hit ↦
         let g : From (numbered c) ∷ [] ≡ reader ∷ [] = rw hit at e in
         let same : From (numbered c) ≡ reader = cc in
-        subst (λ r. IsReaderOf r c × (reaction (Split from left right) content w ≡ port_reaction (Split from left right) content r)) same (refl, rw hit refl)
+        subst (λ r. IsReaderOf r c × (reaction (Split from left right) cell_state w ≡ port_reaction (Split from left right) cell_state r)) same (refl, rw hit refl)
     | inr miss ↦ let g = rw miss at e in absurd cc
   ]
-  one-cell c (Droc role preload feed q n) content reader e = elim (cases_Bool (w == feed.number)) [
+  one-cell c (Droc role preload feed q n) cell_state reader e = elim (cases_Bool (w == feed.number)) [
     | inl hit ↦
         let g : Feed (numbered c) ∷ [] ≡ reader ∷ [] = rw hit at e in
         let same : Feed (numbered c) ≡ reader = cc in
-        subst (λ r. IsReaderOf r c × (reaction (Droc role preload feed q n) content w ≡ port_reaction (Droc role preload feed q n) content r)) same (refl, rw hit refl)
+        subst (λ r. IsReaderOf r c × (reaction (Droc role preload feed q n) cell_state w ≡ port_reaction (Droc role preload feed q n) cell_state r)) same (refl, rw hit refl)
     | inr miss ↦ let g = rw miss at e in absurd cc
   ]
 
   -- cells that do not read the wire do nothing
-  silent-cells : (c : ℕ) (cells : List Cell) (contents : List Content) → length contents ≡ length cells → on_wire w (cell_places reading c cells) ≡ []
-      → reactions cells contents w ≡ Some (record { contents = contents; emitted = [] })
+  silent-cells : (c : ℕ) (cells : List Cell) (cell_states : List CellState) → length cell_states ≡ length cells → on_wire w (cell_places reading c cells) ≡ []
+      → reactions cells cell_states w ≡ Some (record { cell_states = cell_states; emitted = [] })
   silent-cells c [] [] len e = refl
-  silent-cells c [] (content ∷ contents) len e = absurd (omega arith)
+  silent-cells c [] (cell_state ∷ cell_states) len e = absurd (omega arith)
   silent-cells c (cell ∷ cells) [] len e = absurd (omega arith)
-  silent-cells c (cell ∷ cells) (content ∷ contents) len e =
+  silent-cells c (cell ∷ cells) (cell_state ∷ cell_states) len e =
       let parts = none_of_two _ _ (sym (on_wire-append w (reading c cell) (cell_places reading (c + 1) cells)) ∙ e) in
-      rw (silent-cell c cell content parts.0, silent-cells (c + 1) cells contents (omega arith) parts.1) refl
+      rw (silent-cell c cell cell_state parts.0, silent-cells (c + 1) cells cell_states (omega arith) parts.1) refl
 
-  in_place-later : (content : Content) (contents : List Content) (i : ℕ) (o : Option Reaction)
-      → both (silent content) (in_place contents i o) ≡ in_place (content ∷ contents) (suc i) o
-  in_place-later content contents i None = refl
-  in_place-later content contents i (Some reacted) = refl
+  in_place-later : (cell_state : CellState) (cell_states : List CellState) (i : ℕ) (o : Option Reaction)
+      → both (silent cell_state) (in_place cell_states i o) ≡ in_place (cell_state ∷ cell_states) (suc i) o
+  in_place-later cell_state cell_states i None = refl
+  in_place-later cell_state cell_states i (Some reacted) = refl
 
-  in_place-first : (content : Content) (contents : List Content) (o : Option Reaction)
-      → both o (Some (record { contents = contents; emitted = [] })) ≡ in_place (content ∷ contents) 0 o
-  in_place-first content contents None = refl
-  in_place-first content contents (Some reacted) = rw (append-nil reacted.emitted) refl
+  in_place-first : (cell_state : CellState) (cell_states : List CellState) (o : Option Reaction)
+      → both o (Some (record { cell_states = cell_states; emitted = [] })) ≡ in_place (cell_state ∷ cell_states) 0 o
+  in_place-first cell_state cell_states None = refl
+  in_place-first cell_state cell_states (Some reacted) = rw (append-nil reacted.emitted) refl
 
   moved-on : (reader : Reader) (c i : ℕ) → IsReaderOf reader ((c + 1) + i) → IsReaderOf reader (c + suc i)
   moved-on reader c i h = let e : (c + 1) + i ≡ c + suc i = omega arith in subst (IsReaderOf reader) e h
 
   -- of cells that read the wire once in all, one reacts
-  one-of-cells : (c : ℕ) (cells : List Cell) (contents : List Content) (reader : Reader) → length contents ≡ length cells
+  one-of-cells : (c : ℕ) (cells : List Cell) (cell_states : List CellState) (reader : Reader) → length cell_states ≡ length cells
       → on_wire w (cell_places reading c cells) ≡ reader ∷ []
-      → (i : ℕ) × IsReaderOf reader (c + i) × (reactions cells contents w ≡ in_place contents i (reaction_at cells contents i reader))
-  one-of-cells c [] contents reader len e = absurd cc
+      → (i : ℕ) × IsReaderOf reader (c + i) × (reactions cells cell_states w ≡ in_place cell_states i (reaction_at cells cell_states i reader))
+  one-of-cells c [] cell_states reader len e = absurd cc
   one-of-cells c (cell ∷ cells) [] reader len e = absurd (omega arith)
-  one-of-cells c (cell ∷ cells) (content ∷ contents) reader len e =
+  one-of-cells c (cell ∷ cells) (cell_state ∷ cell_states) reader len e =
       elim (one_of_two (on_wire w (reading c cell)) (on_wire w (cell_places reading (c + 1) cells)) reader (sym (on_wire-append w (reading c cell) (cell_places reading (c + 1) cells)) ∙ e)) [
         | inl later ↦
-            let found = one-of-cells (c + 1) cells contents reader (omega arith) later.1 in (
+            let found = one-of-cells (c + 1) cells cell_states reader (omega arith) later.1 in (
               suc found.0,
               moved-on reader c found.0 found.1,
-              rw (silent-cell c cell content later.0, found.2) (in_place-later content contents found.0 (reaction_at cells contents found.0 reader)),
+              rw (silent-cell c cell cell_state later.0, found.2) (in_place-later cell_state cell_states found.0 (reaction_at cells cell_states found.0 reader)),
             )
         | inr here ↦
-            let its = one-cell c cell content reader here.0 in
+            let its = one-cell c cell cell_state reader here.0 in
             let none : c ≡ c + 0 = omega arith in (
               0,
               subst (IsReaderOf reader) none its.0,
-              rw (its.1, silent-cells (c + 1) cells contents (omega arith) here.1) (in_place-first content contents (port_reaction cell content reader)),
+              rw (its.1, silent-cells (c + 1) cells cell_states (omega arith) here.1) (in_place-first cell_state cell_states (port_reaction cell cell_state reader)),
             )
       ]
 
@@ -241,38 +234,40 @@ module _ (w : ℕ) where
         let g : Output (numbered r) ∷ on_wire w (rail_places (λ k. Output (numbered k)) (r + 1) rails) ≡ reader ∷ [] = rw hit at e in
         let same : Output (numbered r) ≡ reader = cc in
         let none : on_wire w (rail_places (λ k. Output (numbered k)) (r + 1) rails) ≡ [] = cc in
-        let start : r ≡ r + 0 = omega arith in (
+        let start : r ≡ r + 0 = omega arith in
+        let rest : counted_after rails counts w ≡ counts = silent-rails (r + 1) rails counts (omega arith) none in (
           0,
           sym same ∙ ap (λ k. Output (numbered k)) start,
-          rw hit (ap (λ cs. (count + 1) ∷ cs) (silent-rails (r + 1) rails counts (omega arith) none)),
+          rw hit (ap (λ cs. (count + 1) ∷ cs) rest),
         )
     | inr miss ↦
         let g = rw miss at e in
         let found = one-of-rails (r + 1) rails counts reader (omega arith) g in
-        let next : (r + 1) + found.0 ≡ r + suc found.0 = omega arith in (
+        let next : (r + 1) + found.0 ≡ r + suc found.0 = omega arith in
+        let rest : counted_after rails counts w ≡ slice_set counts found.0 (slice_index counts found.0 + 1) = found.2 in (
           suc found.0,
           found.1 ∙ ap (λ k. Output (numbered k)) next,
-          rw miss (ap (λ cs. count ∷ cs) found.2),
+          rw miss (ap (λ cs. count ∷ cs) rest),
         )
   ]
 
 -- the outcome of one cell's reaction
-moved-in_place : (net : NetlistLines) (state : State) (w c : ℕ) (o : Option Reaction) → counted_after net.output_rails state.counted w ≡ state.counted
-    → moved net state w (in_place state.contents c o) ≡ after_reaction state w c o
+moved-in_place : (net : PlainNetlist) (state : State) (w c : ℕ) (o : Option Reaction) → counted_after net.output_rails state.counted w ≡ state.counted
+    → moved net state w (in_place state.cell_states c o) ≡ after_reaction state w c o
 moved-in_place net state w c None e = refl
 moved-in_place net state w c (Some reacted) e = rw e refl
 
-at_reader : (net : NetlistLines) (state : State) (w c : ℕ) (reader : Reader) → IsReaderOf reader c
-    → after_reaction state w c (reaction_at net.cells state.contents c reader) ≡ delivered_to net state w reader
+at_reader : (net : PlainNetlist) (state : State) (w c : ℕ) (reader : Reader) → IsReaderOf reader c
+    → after_reaction state w c (reaction_at net.cells state.cell_states c reader) ≡ delivered_to net state w reader
 at_reader net state w c (A id) h = rw (← h) refl
 at_reader net state w c (B id) h = rw (← h) refl
 at_reader net state w c (From id) h = rw (← h) refl
 at_reader net state w c (Feed id) h = rw (← h) refl
 at_reader net state w c (Output id) h = absurd h
 
-pub delivery-to : (net : NetlistLines) (state : State) (w : ℕ) (reader : Reader) → readers net w ≡ reader ∷ [] → length state.contents ≡ length net.cells
+pub delivery-to : (net : PlainNetlist) (state : State) (w : ℕ) (reader : Reader) → readers net w ≡ reader ∷ [] → length state.cell_states ≡ length net.cells
     → length state.counted ≡ length net.output_rails → (state.pending w ≡ 0 → ⊥) → deliver net state w ≡ delivered_to net state w reader
-delivery-to net state w reader e contents counts pending =
+delivery-to net state w reader e cell_states counts pending =
     let some = ne_eqb (state.pending w) 0 pending in
     let cells = cell_places reading 0 net.cells in
     let rails = rail_places (λ r. Output (numbered r)) 0 net.output_rails in
@@ -281,11 +276,11 @@ delivery-to net state w reader e contents counts pending =
           let found = one-of-rails w 0 net.output_rails state.counted reader counts of_rails.1 in
           let start : 0 + found.0 ≡ found.0 = omega arith in
           let its : reader ≡ Output (numbered found.0) = found.1 ∙ ap (λ k. Output (numbered k)) start in
-          rw (some, silent-cells w 0 net.cells state.contents contents of_rails.0, its, found.2)
-          (ap (λ (pending : ℕ → ℕ). Delivered (record { contents = state.contents; pending = pending; counted = slice_set state.counted found.0 (slice_index state.counted found.0 + 1) }))
+          rw (some, silent-cells w 0 net.cells state.cell_states cell_states of_rails.0, its, found.2)
+          (ap (λ (pending : ℕ → ℕ). Delivered (record { cell_states = state.cell_states; pending = pending; counted = slice_set state.counted found.0 (slice_index state.counted found.0 + 1) }))
           (fun_ext (λ other. plus_none (state.pending other - (if w == other then 1 else 0)))))
       | inr of_cells ↦
-          let found = one-of-cells w 0 net.cells state.contents reader contents of_cells.0 in
+          let found = one-of-cells w 0 net.cells state.cell_states reader cell_states of_cells.0 in
           let start : 0 + found.0 ≡ found.0 = omega arith in
           rw (some, found.2)
           (moved-in_place net state w found.0 _ (silent-rails w 0 net.output_rails state.counted counts of_cells.1)

@@ -1,5 +1,5 @@
 -- A netlist that breaks no rule is sound, and every netlist is sound or has a first refusal.
-use Rattle.std.proofs.Common.{◌≡◌, ◌<◌, ◌≤◌, ◌⊎◌, ℕ, zero, suc, Bool, true, false, not, Option, Some, None, List, slice_get, length, ap, sym, ◌∙◌, subst, inl, inr, arith, refl}
+use Rattle.std.proofs.Common.{◌≡◌, ◌<◌, ◌≤◌, ◌⊎◌, ℕ, zero, suc, Bool, true, false, not, Some, slice_get, length, ap, sym, ◌∙◌, subst, inl, inr, arith, refl}
 use Rattle.std.specs.List.{list_all}
 use Rattle.std.proofs.lemmas.Bool.{or_parts, cases_eq, cases_lt, cases_Bool, true≢false}
 use Rattle.pulse_ids.specs.Ids.{numbered}
@@ -10,54 +10,20 @@ use Rattle.cell_netlist.specs.declared.kinds.Role.TheVariants.{Back}
 use Rattle.cell_netlist.specs.declared.unsound.RailLine.TheVariants.{Input, Output}
 use Rattle.cell_netlist.specs.declared.unsound.Unsound.{Unsound}
 use Rattle.cell_netlist.specs.declared.unsound.Unsound.TheVariants.{WireUndriven, WireTwiceDriven, WireUnread, WireTwiceRead, PortRange, RailTwice, Loop, LooseDroc, WrongPreload}
-use Rattle.cell_netlist.specs.Lists.{IsIn, occurrences}
-use Rattle.cell_netlist.specs.NetlistLines.{NetlistLines, outs, driven, read, number_of_wires, IsDroc, Grounded}
+use Rattle.pulse_ids.specs.Lists.{IsIn, occurrences}
+use Rattle.cell_netlist.specs.Netlists.{PlainNetlist, outs, driven, read, number_of_wires, IsDroc, Grounded}
 use Rattle.cell_netlist.specs.RailEquations.{is_back_from, preload_of}
 use Rattle.cell_netlist.specs.Sound.{IsDrocOf, FitsRole, IsFrontTo, IsSound, Breaks, rule_of, number_in, ComesBefore, IsFirstUnsound}
-use Rattle.cell_netlist.specs.Tests.{is_some_with, has, is_same_sign, known_after, are_outs_known, fits_role, link_of, differ, have_right_preloads, is_none_driven_twice}
-use Rattle.cell_netlist.proofs.ListLemmas.{IsIn-at, place_of, list_all-at, is_some_with-at, has-at, has-from}
-use Rattle.cell_netlist.proofs.SoundTests.{same_sign-at, same_sign-from, known_after-grounded, fits-at, right_preloads-at, back-at, differ-at, none_driven_twice-is}
+use Rattle.cell_netlist.specs.Decisions.{is_some_with, has, is_same_sign, known_after, are_outs_known, fits_role, link_of, differ, have_right_preloads, is_none_driven_twice}
+use Rattle.pulse_ids.proofs.CallerLemmas.{place_of}
+use Rattle.cell_netlist.proofs.ListLemmas.{list_all-at, is_some_with-at, has-at, has-from}
+use Rattle.cell_netlist.proofs.SoundDecisions.{same_sign-at, same_sign-from, known_after-grounded, fits-at, right_preloads-at, back-at, differ-at, none_driven_twice-is}
 use Rattle.cell_netlist.proofs.Refusals.{bound, in_bound}
 use Rattle.cell_netlist.proofs.FirstRefusals.{refusal_at, refusal_is}
-use Rattle.cell_netlist.proofs.SoundIsTested.{list_all-not, grounded_known, fits-from, link-at, differ-from}
-
--- the first number below a bound that has a property, where each can be decided when none before it has it
-first_of : (P : ℕ → Type 0) (m : ℕ) → ((n : ℕ) → n < m → ((k : ℕ) → k < n → P k → ⊥) → P n ⊎ (P n → ⊥))
-    → ((n : ℕ) → n < m → P n → ⊥) ⊎ ((n : ℕ) × (n < m) × P n × ((k : ℕ) → k < n → P k → ⊥))
-first_of P zero decide = inl (λ n lt p. absurd (omega (arith, lt)))
-first_of P (suc m) decide = elim (first_of P m (λ n lt before. decide n (omega (arith, lt)) before)) [
-  | inr found ↦ let lt : found.0 < m = found.1 in inr (found.0, omega arith, found.2, found.3)
-  | inl none ↦ elim (decide m (omega arith) none) [
-    | inl here ↦ inr (m, omega arith, here, none)
-    | inr without ↦ inl (λ n lt p. last n lt p none without)
-  ]
-]
-  where
-    last : (n : ℕ) → n < suc m → P n → ((k : ℕ) → k < m → P k → ⊥) → (P m → ⊥) → ⊥
-    last n lt p none without = elim (cases_eq n m) [
-      | inl same ↦ without (subst P same p)
-      | inr other ↦ none n (omega arith) p
-    ]
-
-module _ {X : Type 0} where
-  -- a value is there or not
-  some_or_none : (o : Option X) → ((x : X) × (o ≡ Some x)) ⊎ (o ≡ None)
-  some_or_none None = inr refl
-  some_or_none (Some x) = inl (x, refl)
-
-  -- whether the item at a place has a property
-  decide_item : (xs : List X) (i : ℕ) (P : X → Type 0) → ((x : X) → IsIn x xs → P x ⊎ (P x → ⊥))
-      → ((x : X) × (slice_get xs i ≡ Some x) × P x) ⊎ (((x : X) × (slice_get xs i ≡ Some x) × P x) → ⊥)
-  decide_item xs i P decide = elim (some_or_none (slice_get xs i)) [
-    | inr none ↦ inr (λ found. let e = found.1 in absurd cc)
-    | inl some ↦ elim (decide some.0 (IsIn-at some.0 xs i some.1)) [
-      | inl has ↦ inl (some.0, some.1, has)
-      | inr without ↦ inr (λ found.
-          let e = found.1 in
-          let its = some.1 in
-          let same : found.0 ≡ some.0 = cc in without (subst P same found.2))
-    ]
-  ]
+use Rattle.cell_netlist.proofs.GroundedDecision.{list_all-not}
+use Rattle.cell_netlist.proofs.SoundIsDecided.{fits-from, link-at, differ-from}
+use Rattle.cell_netlist.proofs.GroundedDecision.{grounded_known}
+use Rattle.cell_netlist.proofs.ListLemmas.{first_of, decide_item}
 
 -- a cell is a DROC or not
 droc_or_not : (cell : Cell) → IsDroc cell ⊎ (IsDroc cell → ⊥)
@@ -66,7 +32,7 @@ droc_or_not (Fa a b out) = inr (λ d. d)
 droc_or_not (Split from left right) = inr (λ d. d)
 droc_or_not (Droc role preload feed q n) = inl tt
 
-module _ (net : NetlistLines) where
+module _ (net : PlainNetlist) where
   -- a wire that is not known is not grounded
   not_grounded : (w : ℕ) → has w (known_after net (length net.cells)) ≡ false → Grounded net w → ⊥
   not_grounded w e g = true≢false (sym (has-from w (known_after net (length net.cells)) (grounded_known net w g)) ∙ e)
@@ -80,10 +46,12 @@ module _ (net : NetlistLines) where
   -- a netlist that breaks no rule is sound
   pub unbroken_sound : ((unsound : Unsound) → Breaks net unsound → ⊥) → IsSound net
   unbroken_sound none = record {
-    all_driven = λ w lt. elim (cases_eq (occurrences w (driven net)) 0) [ inl e ↦ absurd (none (WireUndriven (numbered w)) (lt, e)) | inr some ↦ omega arith ];
-    none_driven_twice = λ w lt. elim (cases_lt (occurrences w (driven net)) 2) [ inl few ↦ omega arith | inr many ↦ absurd (none (WireTwiceDriven (numbered w)) many) ];
-    all_read = λ w lt. elim (cases_eq (occurrences w (read net)) 0) [ inl e ↦ absurd (none (WireUnread (numbered w)) (lt, e)) | inr some ↦ omega arith ];
-    none_read_twice = λ w lt. elim (cases_lt (occurrences w (read net)) 2) [ inl few ↦ omega arith | inr many ↦ absurd (none (WireTwiceRead (numbered w)) many) ];
+    wired = record {
+      all_driven = λ w lt. elim (cases_eq (occurrences w (driven net)) 0) [ inl e ↦ absurd (none (WireUndriven (numbered w)) (lt, e)) | inr some ↦ omega arith ];
+      none_driven_twice = λ w lt. elim (cases_lt (occurrences w (driven net)) 2) [ inl few ↦ omega arith | inr many ↦ absurd (none (WireTwiceDriven (numbered w)) many) ];
+      all_read = λ w lt. elim (cases_eq (occurrences w (read net)) 0) [ inl e ↦ absurd (none (WireUnread (numbered w)) (lt, e)) | inr some ↦ omega arith ];
+      none_read_twice = λ w lt. elim (cases_lt (occurrences w (read net)) 2) [ inl few ↦ omega arith | inr many ↦ absurd (none (WireTwiceRead (numbered w)) many) ];
+    };
     input_ports = λ rail among. elim (cases_lt rail.port net.inputs) [
       | inl lt ↦ lt
       | inr ge ↦ let place = place_of rail net.input_rails among in absurd (none (PortRange (Input (numbered place.0))) (rail, place.1, ge))
@@ -241,7 +209,7 @@ place_is (Loop id) = (7, refl, omega arith)
 place_is (LooseDroc id) = (8, refl, omega arith)
 place_is (WrongPreload id) = (9, refl, omega arith)
 
-module _ (net : NetlistLines) where
+module _ (net : PlainNetlist) where
   -- the rule of this place, counted from 0, is broken at a number
   abbrev BreaksAt : ℕ → ℕ → Type 0
   BreaksAt r n = Breaks net (refusal_at (suc r) n)

@@ -9,13 +9,14 @@ use Rattle.cell_netlist.specs.declared.lines.Cell.{Cell}
 use Rattle.cell_netlist.specs.declared.unsound.RailLine.TheVariants.{Input, Output}
 use Rattle.cell_netlist.specs.declared.unsound.Unsound.{Unsound}
 use Rattle.cell_netlist.specs.declared.unsound.Unsound.TheVariants.{WireUndriven, WireTwiceDriven, WireUnread, WireTwiceRead, PortRange, RailTwice, Loop, LooseDroc, WrongPreload}
-use Rattle.cell_netlist.specs.Lists.{IsIn, occurrences}
-use Rattle.cell_netlist.specs.NetlistLines.{NetlistLines, wire_of, outs, reads, driven, read, number_of_wires, Grounded, of_rail, of_droc, of_gate}
+use Rattle.pulse_ids.specs.Lists.{IsIn, occurrences}
+use Rattle.cell_netlist.specs.Netlists.{PlainNetlist, wire_of, outs, reads, driven, read, number_of_wires, Grounded, of_rail, of_droc, of_gate}
 use Rattle.cell_netlist.specs.Sound.{Breaks, rule_of, number_in, IsFirstUnsound}
-use Rattle.cell_netlist.specs.Tests.{all_below, has, are_other_rails, droc_outs, is_ready, known_after, are_outs_known, fits_role, have_right_preloads}
-use Rattle.cell_netlist.proofs.ListLemmas.{all_below-at, IsIn-left, IsIn-right, IsIn-mapped, IsIn-flat_mapped, list_all-at, list_all-from, has-at, has-from}
-use Rattle.cell_netlist.proofs.SoundTests.{other_rails-at, known_after-grounded, fits-at, right_preloads-at, droc_outs-is}
-use Rattle.cell_netlist.proofs.LeanTests.{occurrences-past, wire_bound-append}
+use Rattle.cell_netlist.specs.Decisions.{all_below, has, are_other_rails, droc_outs, is_ready, known_after, are_outs_known, fits_role, have_right_preloads}
+use Rattle.pulse_ids.proofs.CallerLemmas.{IsIn-left, IsIn-right, IsIn-map, IsIn-flat_map}
+use Rattle.cell_netlist.proofs.ListLemmas.{all_below-at, list_all-at, list_all-from, has-at, has-from}
+use Rattle.cell_netlist.proofs.SoundDecisions.{other_rails-at, known_after-grounded, fits-at, right_preloads-at, droc_outs-is}
+use Rattle.cell_netlist.proofs.WireBounds.{occurrences-past, wire_bound-append}
 
 -- a value that is there has the test
 abbrev pub is_none_or : {X : Type 0} → (X → Bool) → Option X → Bool
@@ -35,7 +36,7 @@ before-in (suc n) zero (y ∷ xs) x lt e = inl cc
 before-in (suc n) (suc i) (y ∷ xs) x lt e = inr (before-in n i xs x (omega arith) e)
 
 -- a netlist does not break a rule at this place
-abbrev pub passes : NetlistLines → Unsound → Bool
+abbrev pub passes : PlainNetlist → Unsound → Bool
 passes net (WireUndriven wire) = nat_le (number_of_wires net) wire.number || nat_lt 0 (occurrences wire.number (driven net))
 passes net (WireTwiceDriven wire) = nat_lt (occurrences wire.number (driven net)) 2
 passes net (WireUnread wire) = nat_le (number_of_wires net) wire.number || nat_lt 0 (occurrences wire.number (read net))
@@ -48,7 +49,7 @@ passes net (Loop id) = is_none_or (are_outs_known (known_after net (length net.c
 passes net (LooseDroc id) = is_none_or (fits_role net.cells) (slice_get net.cells id.number)
 passes net (WrongPreload id) = is_none_or (λ back. list_all (λ front. have_right_preloads front back) net.cells) (slice_get net.cells id.number)
 
-passes-right : (net : NetlistLines) (unsound : Unsound) → Breaks net unsound → passes net unsound ≡ true → ⊥
+passes-right : (net : PlainNetlist) (unsound : Unsound) → Breaks net unsound → passes net unsound ≡ true → ⊥
 passes-right net (WireUndriven wire) b e = elim (or_cases (nat_le (number_of_wires net) wire.number) (nat_lt 0 (occurrences wire.number (driven net))) e) [
   | inl past ↦ let t = leb-true (number_of_wires net) wire.number past in omega (arith, b.0)
   | inr some ↦ let t = ltb-true 0 (occurrences wire.number (driven net)) some in omega (arith, b.1)
@@ -79,10 +80,10 @@ passes-right net (WrongPreload id) b e =
     b.7 (right_preloads-at net front.front b.0 b.4 b.3 front.feed b.2 t front.role front.q b.5)
 
 -- a number that no refusal of the netlist reaches
-abbrev pub bound : NetlistLines → ℕ
+abbrev pub bound : PlainNetlist → ℕ
 bound net = number_of_wires net + (length net.input_rails + (length net.output_rails + length net.cells))
 
-pub in_bound : (net : NetlistLines) (unsound : Unsound) → Breaks net unsound → number_in unsound < bound net
+pub in_bound : (net : PlainNetlist) (unsound : Unsound) → Breaks net unsound → number_in unsound < bound net
 in_bound net (WireUndriven wire) b = omega (arith, b.0)
 in_bound net (WireTwiceDriven wire) b = elim (cases_lt wire.number (number_of_wires net)) [
   | inl lt ↦ omega arith
@@ -105,19 +106,19 @@ in_bound net (LooseDroc id) b = let t = slice_get_within net.cells id.number b.0
 in_bound net (WrongPreload id) b = let t = slice_get_within net.cells id.number b.0 b.1 in omega arith
 
 -- below which numbers a rule has to hold where a refusal is the first one
-abbrev pub limit : NetlistLines → Unsound → ℕ → ℕ
+abbrev pub limit : PlainNetlist → Unsound → ℕ → ℕ
 limit net unsound rule = if nat_lt rule (rule_of unsound) then bound net else if rule == rule_of unsound then number_in unsound else 0
 
-limit-above : (net : NetlistLines) (unsound : Unsound) (rule n : ℕ) → n < bound net
+limit-above : (net : PlainNetlist) (unsound : Unsound) (rule n : ℕ) → n < bound net
     → (rule < rule_of unsound) ⊎ ((rule ≡ rule_of unsound) × (n < number_in unsound)) → n < limit net unsound rule
 limit-above net unsound rule n lt (inl earlier) = rw (lt-ltb _ _ earlier) lt
 limit-above net unsound rule n lt (inr here) =
     let low : rule_of unsound ≤ rule = omega (arith, here.0) in
     rw (le-ltb _ _ low, eq-eqb _ _ here.0) here.1
 
--- the tests that no rule is broken before this refusal
-abbrev pub tests_before : NetlistLines → Unsound → List Bool
-tests_before net unsound =
+-- the decisions that no rule is broken before this refusal
+abbrev pub decisions_before : PlainNetlist → Unsound → List Bool
+decisions_before net unsound =
     all_below (λ n. passes net (WireUndriven (numbered n))) (limit net unsound 1)
     ∷ all_below (λ n. passes net (WireTwiceDriven (numbered n))) (limit net unsound 2)
     ∷ all_below (λ n. passes net (WireUnread (numbered n))) (limit net unsound 3)
@@ -129,32 +130,42 @@ tests_before net unsound =
     ∷ all_below (λ n. passes net (LooseDroc (numbered n))) (limit net unsound 9)
     ∷ all_below (λ n. passes net (WrongPreload (numbered n))) (limit net unsound 10) ∷ []
 
-abbrev pub all_before : NetlistLines → Unsound → Bool
-all_before net unsound = list_all (λ b. b) (tests_before net unsound)
+abbrev pub all_before : PlainNetlist → Unsound → Bool
+all_before net unsound = list_all (λ b. b) (decisions_before net unsound)
 
-passes-before : (net : NetlistLines) (unsound other : Unsound) → all_before net unsound ≡ true → number_in other < limit net unsound (rule_of other) → passes net other ≡ true
+passes-before : (net : PlainNetlist) (unsound other : Unsound) → all_before net unsound ≡ true → number_in other < limit net unsound (rule_of other) → passes net other ≡ true
 passes-before net unsound (WireUndriven wire) e lt =
-    all_below-at (λ n. passes net (WireUndriven (numbered n))) (limit net unsound 1) (list_all-at (λ b. b) (tests_before net unsound) e _ (inl refl)) wire.number lt
+    all_below-at (λ n. passes net (WireUndriven (numbered n))) (limit net unsound 1)
+    (list_all-at (λ b. b) (decisions_before net unsound) e _ (inl refl)) wire.number lt
 passes-before net unsound (WireTwiceDriven wire) e lt =
-    all_below-at (λ n. passes net (WireTwiceDriven (numbered n))) (limit net unsound 2) (list_all-at (λ b. b) (tests_before net unsound) e _ (inr (inl refl))) wire.number lt
+    all_below-at (λ n. passes net (WireTwiceDriven (numbered n))) (limit net unsound 2)
+    (list_all-at (λ b. b) (decisions_before net unsound) e _ (inr (inl refl))) wire.number lt
 passes-before net unsound (WireUnread wire) e lt =
-    all_below-at (λ n. passes net (WireUnread (numbered n))) (limit net unsound 3) (list_all-at (λ b. b) (tests_before net unsound) e _ (inr (inr (inl refl)))) wire.number lt
+    all_below-at (λ n. passes net (WireUnread (numbered n))) (limit net unsound 3)
+    (list_all-at (λ b. b) (decisions_before net unsound) e _ (inr (inr (inl refl)))) wire.number lt
 passes-before net unsound (WireTwiceRead wire) e lt =
-    all_below-at (λ n. passes net (WireTwiceRead (numbered n))) (limit net unsound 4) (list_all-at (λ b. b) (tests_before net unsound) e _ (inr (inr (inr (inl refl))))) wire.number lt
+    all_below-at (λ n. passes net (WireTwiceRead (numbered n))) (limit net unsound 4)
+    (list_all-at (λ b. b) (decisions_before net unsound) e _ (inr (inr (inr (inl refl))))) wire.number lt
 passes-before net unsound (PortRange (Input id)) e lt =
-    all_below-at (λ n. passes net (PortRange (Input (numbered n)))) (limit net unsound 5) (list_all-at (λ b. b) (tests_before net unsound) e _ (inr (inr (inr (inr (inl refl)))))) id.number lt
+    all_below-at (λ n. passes net (PortRange (Input (numbered n)))) (limit net unsound 5)
+    (list_all-at (λ b. b) (decisions_before net unsound) e _ (inr (inr (inr (inr (inl refl)))))) id.number lt
 passes-before net unsound (PortRange (Output id)) e lt =
-    all_below-at (λ n. passes net (PortRange (Output (numbered n)))) (limit net unsound 6) (list_all-at (λ b. b) (tests_before net unsound) e _ (inr (inr (inr (inr (inr (inl refl))))))) id.number lt
+    all_below-at (λ n. passes net (PortRange (Output (numbered n)))) (limit net unsound 6)
+    (list_all-at (λ b. b) (decisions_before net unsound) e _ (inr (inr (inr (inr (inr (inl refl))))))) id.number lt
 passes-before net unsound (RailTwice id) e lt =
-    all_below-at (λ n. passes net (RailTwice (numbered n))) (limit net unsound 7) (list_all-at (λ b. b) (tests_before net unsound) e _ (inr (inr (inr (inr (inr (inr (inl refl)))))))) id.number lt
+    all_below-at (λ n. passes net (RailTwice (numbered n))) (limit net unsound 7)
+    (list_all-at (λ b. b) (decisions_before net unsound) e _ (inr (inr (inr (inr (inr (inr (inl refl)))))))) id.number lt
 passes-before net unsound (Loop id) e lt =
-    all_below-at (λ n. passes net (Loop (numbered n))) (limit net unsound 8) (list_all-at (λ b. b) (tests_before net unsound) e _ (inr (inr (inr (inr (inr (inr (inr (inl refl))))))))) id.number lt
+    all_below-at (λ n. passes net (Loop (numbered n))) (limit net unsound 8)
+    (list_all-at (λ b. b) (decisions_before net unsound) e _ (inr (inr (inr (inr (inr (inr (inr (inl refl))))))))) id.number lt
 passes-before net unsound (LooseDroc id) e lt =
-    all_below-at (λ n. passes net (LooseDroc (numbered n))) (limit net unsound 9) (list_all-at (λ b. b) (tests_before net unsound) e _ (inr (inr (inr (inr (inr (inr (inr (inr (inl refl)))))))))) id.number lt
+    all_below-at (λ n. passes net (LooseDroc (numbered n))) (limit net unsound 9)
+    (list_all-at (λ b. b) (decisions_before net unsound) e _ (inr (inr (inr (inr (inr (inr (inr (inr (inl refl)))))))))) id.number lt
 passes-before net unsound (WrongPreload id) e lt =
-    all_below-at (λ n. passes net (WrongPreload (numbered n))) (limit net unsound 10) (list_all-at (λ b. b) (tests_before net unsound) e _ (inr (inr (inr (inr (inr (inr (inr (inr (inr (inl refl))))))))))) id.number lt
+    all_below-at (λ n. passes net (WrongPreload (numbered n))) (limit net unsound 10)
+    (list_all-at (λ b. b) (decisions_before net unsound) e _ (inr (inr (inr (inr (inr (inr (inr (inr (inr (inl refl))))))))))) id.number lt
 
-pub first_refusal : (net : NetlistLines) (unsound : Unsound) → Breaks net unsound → all_before net unsound ≡ true → IsFirstUnsound net unsound
+pub first_refusal : (net : PlainNetlist) (unsound : Unsound) → Breaks net unsound → all_before net unsound ≡ true → IsFirstUnsound net unsound
 first_refusal net unsound breaks e = record {
   breaks = breaks;
   first = λ other b comes.
@@ -162,19 +173,19 @@ first_refusal net unsound breaks e = record {
 }
 
 -- a list of wires is closed under the rules of grounded wires
-abbrev pub is_closed : NetlistLines → List ℕ → Bool
+abbrev pub is_closed : PlainNetlist → List ℕ → Bool
 is_closed net ws = list_all (λ w. has w ws) (known_after net 0) && list_all (λ cell. not (is_ready ws cell) || are_outs_known ws cell) net.cells
 
-module _ (net : NetlistLines) (ws : List ℕ) (closed : is_closed net ws ≡ true) where
+module _ (net : PlainNetlist) (ws : List ℕ) (closed : is_closed net ws ≡ true) where
   known-first : (w : ℕ) → IsIn w (known_after net 0) → IsIn w ws
   known-first w h = has-at w ws (list_all-at (λ v. has v ws) (known_after net 0) (and_parts _ _ closed).0 w h)
 
   -- so it holds every grounded wire
   pub grounded-known : (w : ℕ) → Grounded net w → IsIn w ws
   grounded-known _ (of_rail w rail h e) =
-      known-first w (IsIn-left w _ _ (subst (λ v. IsIn v (map wire_of net.input_rails)) e (IsIn-mapped wire_of rail net.input_rails h)))
+      known-first w (IsIn-left w _ _ (subst (λ v. IsIn v (map wire_of net.input_rails)) e (IsIn-map wire_of rail net.input_rails h)))
   grounded-known _ (of_droc w cell h d o) =
-      known-first w (IsIn-right w (map wire_of net.input_rails) _ (IsIn-flat_mapped droc_outs cell w net.cells h (rw (droc_outs-is cell d) o)))
+      known-first w (IsIn-right w (map wire_of net.input_rails) _ (IsIn-flat_map droc_outs w cell net.cells h (rw (droc_outs-is cell d) o)))
   grounded-known _ (of_gate w cell h d o ports) =
       let ready : is_ready ws cell ≡ true = list_all-from (λ v. has v ws) (reads cell) (λ v g. has-from v ws (grounded-known v (ports v g))) in
       let step = list_all-at (λ c. not (is_ready ws c) || are_outs_known ws c) net.cells (and_parts _ _ closed).1 cell h in

@@ -10,11 +10,11 @@ use Rattle.cell_netlist.specs.declared.lines.Rail.{Rail}
 use Rattle.cell_netlist.specs.declared.lines.Cell.{Cell}
 use Rattle.cell_netlist.specs.declared.lines.Driver.{Driver}
 use Rattle.cell_netlist.specs.declared.lines.Reader.{Reader}
-use Rattle.cell_netlist.specs.NetlistLines.{NetlistLines, wire_of, wire_bound, number_of_wires}
+use Rattle.cell_netlist.specs.Netlists.{PlainNetlist, wire_of, wire_bound, number_of_wires}
 use Rattle.cell_netlist.specs.Places.{At, cell_places, rail_places, on_wire, driving_places, reading_places}
 use Rattle.cell_netlist.specs.PlaceTables.{written, HasPlaceTables}
-use Rattle.cell_netlist.specs.Sound.{IsSound}
-use Rattle.cell_netlist.proofs.NetlistLemmas.{wire_bound-append}
+use Rattle.cell_netlist.specs.Wired.{IsWired}
+use Rattle.cell_netlist.proofs.WireBounds.{wire_bound-append}
 use Rattle.cell_netlist.proofs.PlaceLemmas.{drivers-count, readers-count}
 
 -- what stands at a place of a list, and all behind it
@@ -125,11 +125,11 @@ pub cell_bounds : (wires : Cell → List ℕ) (cells : List Cell) (i : ℕ) (cel
     → wire_bound (flat_map wires (drop i cells)) ≡ max (wire_bound (wires cell)) (wire_bound (flat_map wires (drop (i + 1) cells)))
 cell_bounds wires cells i cell e = rw (drop-at cells i cell e) (wire_bound-append (wires cell) (flat_map wires (drop (i + 1) cells)))
 
--- the tables of a sound netlist
-pub tables-of : (net : NetlistLines) (drives : Driver) (reader : Reader) → IsSound net
+-- the tables of a wired netlist
+pub tables-of : (net : PlainNetlist) (drives : Driver) (reader : Reader) → IsWired net
     → HasPlaceTables net (written (driving_places net) (replicate (number_of_wires net) drives)) (written (reading_places net) (replicate (number_of_wires net) reader))
-tables-of net drives reader sound = record {
-  sound = sound;
+tables-of net drives reader wired = record {
+  wired = wired;
   drivers_count = written-length (driving_places net) (replicate (number_of_wires net) drives) ∙ length-replicate (number_of_wires net) drives;
   readers_count = written-length (reading_places net) (replicate (number_of_wires net) reader) ∙ length-replicate (number_of_wires net) reader;
   driver_at = λ wire place e.
@@ -137,8 +137,8 @@ tables-of net drives reader sound = record {
       let long = written-length (driving_places net) (replicate (number_of_wires net) drives) in
       let many = length-replicate (number_of_wires net) drives in
       let below : wire < number_of_wires net = omega arith in
-      let low = sound.all_driven wire below in
-      let high = sound.none_driven_twice wire below in
+      let low = wired.all_driven wire below in
+      let high = wired.none_driven_twice wire below in
       let count = drivers-count net wire in
       written-is (driving_places net) _ wire place (omega arith) e;
   reader_at = λ wire place e.
@@ -146,8 +146,8 @@ tables-of net drives reader sound = record {
       let long = written-length (reading_places net) (replicate (number_of_wires net) reader) in
       let many = length-replicate (number_of_wires net) reader in
       let below : wire < number_of_wires net = omega arith in
-      let low = sound.all_read wire below in
-      let high = sound.none_read_twice wire below in
+      let low = wired.all_read wire below in
+      let high = wired.none_read_twice wire below in
       let count = readers-count net wire in
       written-is (reading_places net) _ wire place (omega arith) e;
 }

@@ -6,8 +6,8 @@ use Rattle.pulse_ids.specs.declared.literals.Sign.TheVariants as signs
 use Rattle.cell_netlist.specs.declared.kinds.Ask.{Ask}
 use Rattle.cell_netlist.specs.declared.kinds.Ask.TheVariants.{Pos, Neg, Both}
 use Rattle.cell_netlist.specs.declared.lines.Rail.{Rail}
-use Rattle.cell_netlist.specs.Lists.{upto}
-use Rattle.cell_netlist.specs.NetlistLines.{NetlistLines}
+use Rattle.pulse_ids.specs.Lists.{upto}
+use Rattle.cell_netlist.specs.Netlists.{PlainNetlist}
 
 -- the signs that are asked for at each port, in order
 abbrev pub signs_of : Ask → List Sign
@@ -24,5 +24,5 @@ abbrev pub asked_rails : Ask → ℕ → List (ℕ × Sign)
 asked_rails ask count = flat_map (λ port. map (λ sign. (port, sign)) (signs_of ask)) (upto count)
 
 -- the output rails of a netlist are exactly the asked ones
-abbrev pub Asks : Ask → ℕ → NetlistLines → Type 0
+abbrev pub Asks : Ask → ℕ → PlainNetlist → Type 0
 Asks ask count net = map rail_of net.output_rails ≡ asked_rails ask count

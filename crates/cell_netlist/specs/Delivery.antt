@@ -3,7 +3,7 @@ use Rattle.std.specs.Prelude.{◌≡◌, ◌≤◌, ℕ, Bool, Some, List, map, 
 use Rattle.cell_netlist.specs.declared.kinds.Phase.{Phase}
 use Rattle.cell_netlist.specs.declared.kinds.Phase.TheVariants.{Relax}
 use Rattle.cell_netlist.specs.declared.lines.Rail.{Rail}
-use Rattle.cell_netlist.specs.NetlistLines.{NetlistLines, number_of_wires}
+use Rattle.cell_netlist.specs.Netlists.{PlainNetlist, number_of_wires}
 use Rattle.cell_netlist.specs.World.{State, IsSettled, IsAtRest, has_sign, pulses_in, Upset, Delivered, deliver}
 use Rattle.cell_netlist.specs.Runs.{Stage, Moment, IsMoment}
 
@@ -14,7 +14,7 @@ due_counts bit phase rails = map (λ rail. if pulses_in phase (has_sign (bit rai
 
 -- A netlist delivers bits on a list of vectors, `bit t k` for output port k in cycle t. At every moment of every
 -- run:
-pub record Delivers (net : NetlistLines) (vectors : List (List Bool)) (bit : ℕ → ℕ → Bool) : Type 0 where
+pub record Delivers (net : PlainNetlist) (vectors : List (List Bool)) (bit : ℕ → ℕ → Bool) : Type 0 where
   -- no delivery is an upset, and each pending pulse can be delivered
   pub no_upset : (moment : Moment) → IsMoment net vectors moment → (wire : ℕ) → deliver net moment.state wire ≡ Upset → ⊥
   pub live : (moment : Moment) → IsMoment net vectors moment → (wire : ℕ) → (moment.state.pending wire ≡ 0 → ⊥)

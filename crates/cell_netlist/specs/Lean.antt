@@ -1,18 +1,18 @@
 -- Leanness: nothing useless, nothing twice, nothing foldable, no deep fan-out.
-use Rattle.std.specs.Prelude.{◌≡◌, ◌⊎◌, ◌≤◌, ◌<◌, ℕ, Some, List, [], ◌∷◌, ◌++◌, map, slice_get}
+use Rattle.std.specs.Prelude.{◌≡◌, ◌⊎◌, ◌≤◌, ◌<◌, ℕ, Some, List, [], ◌++◌, map, slice_get}
 use Rattle.std.specs.List.{flat_map}
 use Rattle.cell_netlist.specs.declared.kinds.Gate.{Gate}
 use Rattle.cell_netlist.specs.declared.kinds.Gate.TheVariants as gates
-use Rattle.cell_netlist.specs.declared.kinds.Role.TheVariants.{Front, Back, Const}
+use Rattle.cell_netlist.specs.declared.kinds.Role.TheVariants.{Const}
 use Rattle.cell_netlist.specs.declared.lines.Rail.{Rail}
 use Rattle.cell_netlist.specs.declared.lines.Cell.{Cell}
 use Rattle.cell_netlist.specs.declared.lines.Cell.TheVariants.{La, Fa, Split, Droc}
-use Rattle.cell_netlist.specs.Lists.{IsIn, HowManyHave, ceil_log2}
-use Rattle.cell_netlist.specs.NetlistLines.{NetlistLines, wire_of, outs, reads, number_of_wires, IsRoot, IsDroc}
+use Rattle.pulse_ids.specs.Lists.{IsIn, HowManyHave, ceil_log2}
+use Rattle.cell_netlist.specs.Netlists.{PlainNetlist, wire_of, outs, reads, number_of_wires, IsRoot, IsDroc}
 
 -- The useful wires: the least set that holds every wire read by an output rail, and every wire read by a cell
 -- that has a useful output.
-pub data Useful (net : NetlistLines) : ℕ → Type 0 where
+pub data Useful (net : PlainNetlist) : ℕ → Type 0 where
   of_output : (wire : ℕ) (rail : Rail) → IsIn rail net.output_rails → wire_of rail ≡ wire → Useful net wire
   of_cell : (wire : ℕ) (cell : Cell) → IsIn cell net.cells → IsIn wire (reads cell) → (out : ℕ) → IsIn out (outs cell) → Useful net out → Useful net wire
 
@@ -20,11 +20,10 @@ pub data Useful (net : NetlistLines) : ℕ → Type 0 where
 abbrev pub IsGateOf : Cell → Gate → ℕ → ℕ → Type 0
 IsGateOf (La its_a its_b out) gate a b = (gate ≡ gates.La) × (its_a.number ≡ a) × (its_b.number ≡ b)
 IsGateOf (Fa its_a its_b out) gate a b = (gate ≡ gates.Fa) × (its_a.number ≡ a) × (its_b.number ≡ b)
-IsGateOf (Split from left right) gate a b = ⊥
-IsGateOf (Droc role preload feed q n) gate a b = ⊥
+IsGateOf cell gate a b = ⊥
 
 -- a gate of this kind whose ports have these roots
-pub record ReadsRoots (net : NetlistLines) (cell : Cell) (gate : Gate) (root_a root_b : ℕ) : Type 0 where
+pub record ReadsRoots (net : PlainNetlist) (cell : Cell) (gate : Gate) (root_a root_b : ℕ) : Type 0 where
   pub a : ℕ
   pub b : ℕ
   pub ports : IsGateOf cell gate a b
@@ -36,7 +35,7 @@ abbrev pub IsSamePair : ℕ → ℕ → ℕ → ℕ → Type 0
 IsSamePair a b c d = ((a ≡ c) × (b ≡ d)) ⊎ ((a ≡ d) × (b ≡ c))
 
 -- two wires are the two rails of one input port
-pub record AreRailsOfOnePort (net : NetlistLines) (one other : ℕ) : Type 0 where
+pub record AreRailsOfOnePort (net : PlainNetlist) (one other : ℕ) : Type 0 where
   pub rail : Rail
   pub other_rail : Rail
   pub among : IsIn rail net.input_rails
@@ -47,7 +46,7 @@ pub record AreRailsOfOnePort (net : NetlistLines) (one other : ℕ) : Type 0 whe
   pub signs : rail.sign ≡ other_rail.sign → ⊥
 
 -- two wires are outputs of one DROC
-pub record AreOutputsOfOneDroc (net : NetlistLines) (one other : ℕ) : Type 0 where
+pub record AreOutputsOfOneDroc (net : PlainNetlist) (one other : ℕ) : Type 0 where
   pub cell : Cell
   pub among : IsIn cell net.cells
   pub droc : IsDroc cell
@@ -56,15 +55,11 @@ pub record AreOutputsOfOneDroc (net : NetlistLines) (one other : ℕ) : Type 0 w
 
 -- the cell is a constant
 abbrev pub IsConstant : Cell → Type 0
-IsConstant (La a b out) = ⊥
-IsConstant (Fa a b out) = ⊥
-IsConstant (Split from left right) = ⊥
-IsConstant (Droc Front preload feed q n) = ⊥
-IsConstant (Droc Back preload feed q n) = ⊥
 IsConstant (Droc Const preload feed q n) = Unit
+IsConstant cell = ⊥
 
 -- a wire is an output of a constant
-pub record IsOutputOfConstant (net : NetlistLines) (wire : ℕ) : Type 0 where
+pub record IsOutputOfConstant (net : PlainNetlist) (wire : ℕ) : Type 0 where
   pub cell : Cell
   pub among : IsIn cell net.cells
   pub constant : IsConstant cell
@@ -72,17 +67,15 @@ pub record IsOutputOfConstant (net : NetlistLines) (wire : ℕ) : Type 0 where
 
 -- the wires that cells other than splitters read
 abbrev pub reads_of_leaf : Cell → List ℕ
-reads_of_leaf (La a b out) = a.number ∷ b.number ∷ []
-reads_of_leaf (Fa a b out) = a.number ∷ b.number ∷ []
 reads_of_leaf (Split from left right) = []
-reads_of_leaf (Droc role preload feed q n) = feed.number ∷ []
+reads_of_leaf cell = reads cell
 
 -- the wires read by readers that are not splitters: ports, feeds and output rails
-abbrev pub leaves : NetlistLines → List ℕ
+abbrev pub leaves : PlainNetlist → List ℕ
 leaves net = flat_map reads_of_leaf net.cells ++ map wire_of net.output_rails
 
 -- The four properties.
-pub record IsLean (net : NetlistLines) : Type 0 where
+pub record IsLean (net : PlainNetlist) : Type 0 where
   -- every wire is useful
   pub useful : (wire : ℕ) → wire < number_of_wires net → Useful net wire
   -- no two LA cells, and no two FA cells, read the same unordered pair of roots

@@ -1,5 +1,5 @@
 -- The places that drive a wire and those that read it.
-use Rattle.std.specs.Prelude.{◌+◌, ℕ, Option, Some, None, List, [], ◌∷◌, ◌++◌, if◌then◌else◌, ◌==◌}
+use Rattle.std.specs.Prelude.{◌≡◌, ◌+◌, ℕ, Option, Some, None, option_map, option_and_then, slice_get, List, [], ◌∷◌, ◌++◌, if◌then◌else◌, ◌==◌}
 use Rattle.pulse_ids.specs.Ids.{WireId, numbered}
 use Rattle.cell_netlist.specs.declared.lines.Rail.{Rail}
 use Rattle.cell_netlist.specs.declared.lines.Cell.{Cell}
@@ -8,7 +8,7 @@ use Rattle.cell_netlist.specs.declared.lines.Driver.{Driver}
 use Rattle.cell_netlist.specs.declared.lines.Driver.TheVariants as drivers_of
 use Rattle.cell_netlist.specs.declared.lines.Reader.{Reader}
 use Rattle.cell_netlist.specs.declared.lines.Reader.TheVariants as readers_of
-use Rattle.cell_netlist.specs.NetlistLines.{NetlistLines, wire_of}
+use Rattle.cell_netlist.specs.Netlists.{PlainNetlist, wire_of}
 
 -- a place with its wire
 abbrev pub At : Type 0 → Type 0
@@ -49,17 +49,83 @@ on_wire wire [] = []
 on_wire wire (at ∷ rest) = if wire == at.0 then at.1 ∷ on_wire wire rest else on_wire wire rest
 
 -- all places that drive, input rails first, each with its wire
-abbrev pub driving_places : NetlistLines → List (At Driver)
+abbrev pub driving_places : PlainNetlist → List (At Driver)
 driving_places net = rail_places (λ r. drivers_of.Input (numbered r)) 0 net.input_rails ++ cell_places driving 0 net.cells
 
 -- all places that read, output rails last, each with its wire
-abbrev pub reading_places : NetlistLines → List (At Reader)
+abbrev pub reading_places : PlainNetlist → List (At Reader)
 reading_places net = cell_places reading 0 net.cells ++ rail_places (λ r. readers_of.Output (numbered r)) 0 net.output_rails
 
 -- the places that drive a wire
-abbrev pub drivers : NetlistLines → ℕ → List Driver
+abbrev pub drivers : PlainNetlist → ℕ → List Driver
 drivers net wire = on_wire wire (driving_places net)
 
 -- the places that read a wire
-abbrev pub readers : NetlistLines → ℕ → List Reader
+abbrev pub readers : PlainNetlist → ℕ → List Reader
 readers net wire = on_wire wire (reading_places net)
+
+-- a driving place of the cell of a number
+abbrev pub IsDriverOf : Driver → ℕ → Type 0
+IsDriverOf (drivers_of.Input id) c = ⊥
+IsDriverOf (drivers_of.Out id) c = id.number ≡ c
+IsDriverOf (drivers_of.Left id) c = id.number ≡ c
+IsDriverOf (drivers_of.Right id) c = id.number ≡ c
+IsDriverOf (drivers_of.Q id) c = id.number ≡ c
+IsDriverOf (drivers_of.N id) c = id.number ≡ c
+
+-- a reading place of the cell of a number
+abbrev pub IsReaderOf : Reader → ℕ → Type 0
+IsReaderOf (readers_of.A id) c = id.number ≡ c
+IsReaderOf (readers_of.B id) c = id.number ≡ c
+IsReaderOf (readers_of.From id) c = id.number ≡ c
+IsReaderOf (readers_of.Feed id) c = id.number ≡ c
+IsReaderOf (readers_of.Output id) c = ⊥
+
+-- the wire on an output of a cell, where the cell has that output and it is used
+abbrev pub output_at : Cell → Driver → Option WireId
+output_at (cells.La a b out) (drivers_of.Out id) = Some out
+output_at (cells.Fa a b out) (drivers_of.Out id) = Some out
+output_at (cells.Split from left right) (drivers_of.Left id) = Some left
+output_at (cells.Split from left right) (drivers_of.Right id) = Some right
+output_at (cells.Droc role preload feed q n) (drivers_of.Q id) = q
+output_at (cells.Droc role preload feed q n) (drivers_of.N id) = n
+output_at cell place = None
+
+-- the wire on an input of a cell, where the cell has that input
+abbrev pub input_at : Cell → Reader → Option WireId
+input_at (cells.La a b out) (readers_of.A id) = Some a
+input_at (cells.La a b out) (readers_of.B id) = Some b
+input_at (cells.Fa a b out) (readers_of.A id) = Some a
+input_at (cells.Fa a b out) (readers_of.B id) = Some b
+input_at (cells.Split from left right) (readers_of.From id) = Some from
+input_at (cells.Droc role preload feed q n) (readers_of.Feed id) = Some feed
+input_at cell place = None
+
+-- the wire on an output of the cell of a number
+abbrev pub output_of : List Cell → ℕ → Driver → Option WireId
+output_of cells c place = option_and_then (λ cell. output_at cell place) (slice_get cells c)
+
+-- the wire on an input of the cell of a number
+abbrev pub input_of : List Cell → ℕ → Reader → Option WireId
+input_of cells c place = option_and_then (λ cell. input_at cell place) (slice_get cells c)
+
+-- the wire of the rail of a number
+abbrev pub rail_wire : List Rail → ℕ → Option WireId
+rail_wire rails r = option_map (λ rail. rail.wire) (slice_get rails r)
+
+-- the wire on a driving place of a netlist: that output of that cell, or that input rail
+abbrev pub wire_driven_at : PlainNetlist → Driver → Option WireId
+wire_driven_at net (drivers_of.Input id) = rail_wire net.input_rails id.number
+wire_driven_at net (drivers_of.Out id) = output_of net.cells id.number (drivers_of.Out id)
+wire_driven_at net (drivers_of.Left id) = output_of net.cells id.number (drivers_of.Left id)
+wire_driven_at net (drivers_of.Right id) = output_of net.cells id.number (drivers_of.Right id)
+wire_driven_at net (drivers_of.Q id) = output_of net.cells id.number (drivers_of.Q id)
+wire_driven_at net (drivers_of.N id) = output_of net.cells id.number (drivers_of.N id)
+
+-- the wire on a reading place of a netlist: that input of that cell, or that output rail
+abbrev pub wire_read_at : PlainNetlist → Reader → Option WireId
+wire_read_at net (readers_of.A id) = input_of net.cells id.number (readers_of.A id)
+wire_read_at net (readers_of.B id) = input_of net.cells id.number (readers_of.B id)
+wire_read_at net (readers_of.From id) = input_of net.cells id.number (readers_of.From id)
+wire_read_at net (readers_of.Feed id) = input_of net.cells id.number (readers_of.Feed id)
+wire_read_at net (readers_of.Output id) = rail_wire net.output_rails id.number

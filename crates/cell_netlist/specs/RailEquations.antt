@@ -9,8 +9,8 @@ use Rattle.cell_netlist.specs.declared.kinds.Phase.TheVariants.{Excite, Relax}
 use Rattle.cell_netlist.specs.declared.lines.Rail.{Rail}
 use Rattle.cell_netlist.specs.declared.lines.Cell.{Cell}
 use Rattle.cell_netlist.specs.declared.lines.Cell.TheVariants.{La, Fa, Split, Droc}
-use Rattle.cell_netlist.specs.Lists.{IsIn, bit_at}
-use Rattle.cell_netlist.specs.NetlistLines.{NetlistLines, wire_of, number_of_wires}
+use Rattle.pulse_ids.specs.Lists.{IsIn, bit_at}
+use Rattle.cell_netlist.specs.Netlists.{PlainNetlist, wire_of, number_of_wires}
 use Rattle.cell_netlist.specs.World.{has_sign, pulses_in}
 
 -- A state of the latches gives a bit to each back. A back is known by its link, the wire from its front.
@@ -33,7 +33,7 @@ CellEquation state bit (Droc Back preload feed q n) = CarriesIfUsed bit q (state
 CellEquation state bit (Droc Const preload feed q n) = CarriesIfUsed bit q preload × CarriesIfUsed bit n (not preload)
 
 -- these bits, one a wire, meet the equations for a state and a vector
-pub record IsRails (net : NetlistLines) (state : LatchState) (vector : List Bool) (bits : List Bool) : Type 0 where
+pub record IsRails (net : PlainNetlist) (state : LatchState) (vector : List Bool) (bits : List Bool) : Type 0 where
   pub length_is : length bits ≡ number_of_wires net
   pub rails : (rail : Rail) → IsIn rail net.input_rails → bit_at bits (wire_of rail) ≡ has_sign (bit_at vector rail.port) rail.sign
   pub cells : (cell : Cell) → IsIn cell net.cells → CellEquation state (bit_at bits) cell
@@ -45,34 +45,22 @@ is_on (Some used) wire = wire == used.number
 
 -- whether a cell is the front whose `q` is this wire
 abbrev pub is_front_to : ℕ → Cell → Bool
-is_front_to link (La a b out) = false
-is_front_to link (Fa a b out) = false
-is_front_to link (Split from left right) = false
 is_front_to link (Droc Front preload feed q n) = is_on q link
-is_front_to link (Droc Back preload feed q n) = false
-is_front_to link (Droc Const preload feed q n) = false
+is_front_to link cell = false
 
 -- whether a cell is the back whose feed is this wire
 abbrev pub is_back_from : ℕ → Cell → Bool
-is_back_from link (La a b out) = false
-is_back_from link (Fa a b out) = false
-is_back_from link (Split from left right) = false
-is_back_from link (Droc Front preload feed q n) = false
 is_back_from link (Droc Back preload feed q n) = link == feed.number
-is_back_from link (Droc Const preload feed q n) = false
+is_back_from link cell = false
 
 -- a DROC's feed and preload (0 for other cells)
 abbrev pub feed_of : Cell → ℕ
-feed_of (La a b out) = 0
-feed_of (Fa a b out) = 0
-feed_of (Split from left right) = 0
 feed_of (Droc role preload feed q n) = feed.number
+feed_of cell = 0
 
 abbrev pub preload_of : Cell → Bool
-preload_of (La a b out) = false
-preload_of (Fa a b out) = false
-preload_of (Split from left right) = false
 preload_of (Droc role preload feed q n) = preload
+preload_of cell = false
 
 -- what a function gives of the one cell with a test, and 0 where none has it
 abbrev pub of_the : (Cell → Bool) → (Cell → Bool) → List Cell → Bool
@@ -80,26 +68,26 @@ of_the test value [] = false
 of_the test value (cell ∷ cells) = if test cell then value cell else of_the test value cells
 
 -- the first state: each back holds its preload
-abbrev pub first_state : NetlistLines → LatchState
+abbrev pub first_state : PlainNetlist → LatchState
 first_state net link = of_the (is_back_from link) preload_of net.cells
 
 -- the next state of a back is the bit of its front's feed
-abbrev pub next_state : NetlistLines → List Bool → LatchState
+abbrev pub next_state : PlainNetlist → List Bool → LatchState
 next_state net bits link = of_the (is_front_to link) (λ cell. bit_at bits (feed_of cell)) net.cells
 
 -- one list of bits a vector, from a state on
-abbrev pub IsNetRunFrom : NetlistLines → LatchState → List (List Bool) → List (List Bool) → Type 0
+abbrev pub IsNetRunFrom : PlainNetlist → LatchState → List (List Bool) → List (List Bool) → Type 0
 IsNetRunFrom net state [] [] = Unit
 IsNetRunFrom net state [] (bits ∷ rest) = ⊥
 IsNetRunFrom net state (vector ∷ vectors) [] = ⊥
 IsNetRunFrom net state (vector ∷ vectors) (bits ∷ rest) = IsRails net state vector bits × IsNetRunFrom net (next_state net bits) vectors rest
 
 -- the netlist's run by its equations
-abbrev pub IsNetRun : NetlistLines → List (List Bool) → List (List Bool) → Type 0
+abbrev pub IsNetRun : PlainNetlist → List (List Bool) → List (List Bool) → Type 0
 IsNetRun net vectors run = IsNetRunFrom net (first_state net) vectors run
 
 -- whether a wire is a link, the `q` of a front
-abbrev pub is_link : NetlistLines → ℕ → Bool
+abbrev pub is_link : PlainNetlist → ℕ → Bool
 is_link net wire = list_any (is_front_to wire) net.cells
 
 -- whether a link is due, by its back's state and next state
@@ -110,6 +98,6 @@ link_due Relax now next = next
 -- Whether a wire is due a pulse in a phase. A link is due in excite where its back's state is 0, and in relax
 -- where its back's next state is 1. Any other wire is due in excite where its bit is 1, and in relax where it
 -- is 0.
-abbrev pub is_due : NetlistLines → LatchState → List Bool → Phase → ℕ → Bool
+abbrev pub is_due : PlainNetlist → LatchState → List Bool → Phase → ℕ → Bool
 is_due net state bits phase wire =
     if is_link net wire then link_due phase (state wire) (next_state net bits wire) else pulses_in phase (bit_at bits wire)

@@ -2,7 +2,7 @@
 use Rattle.std.specs.Prelude.{◌≡◌, ◌+◌, ◌*◌, ℕ, Bool, Option, Some, None, List, [], ◌∷◌, ◌++◌, length, slice_get}
 use Rattle.cell_netlist.specs.declared.kinds.Phase.{Phase}
 use Rattle.cell_netlist.specs.declared.kinds.Phase.TheVariants.{Excite, Relax}
-use Rattle.cell_netlist.specs.NetlistLines.{NetlistLines}
+use Rattle.cell_netlist.specs.Netlists.{PlainNetlist}
 use Rattle.cell_netlist.specs.World.{State, start, IsSettled, opened, Delivered, deliver}
 
 -- the phases of a run: the cycle, from 0, and which of its two phases
@@ -33,7 +33,7 @@ pub data Event : Type 0 where
   Delivers : ℕ → Event
 
 -- a phase opens where nothing is pending, with its cycle's vector
-pub record OpensPhase (net : NetlistLines) (vectors : List (List Bool)) (before after : Moment) : Type 0 where
+pub record OpensPhase (net : PlainNetlist) (vectors : List (List Bool)) (before after : Moment) : Type 0 where
   pub settled : IsSettled before.state
   pub vector : List Bool
   pub of_cycle : slice_get vectors (next_stage before.stage).cycle ≡ Some vector
@@ -42,28 +42,28 @@ pub record OpensPhase (net : NetlistLines) (vectors : List (List Bool)) (before 
   pub state : after.state ≡ opened net (next_stage before.stage).phase vector before.state
 
 -- a pending pulse of a wire is delivered
-pub record DeliversPulse (net : NetlistLines) (wire : ℕ) (before after : Moment) : Type 0 where
+pub record DeliversPulse (net : PlainNetlist) (wire : ℕ) (before after : Moment) : Type 0 where
   pub stage : after.stage ≡ before.stage
   pub delivered : after.delivered ≡ before.delivered ++ wire ∷ []
   pub state : deliver net before.state wire ≡ Delivered after.state
 
 -- an event leads from one moment to the next
-abbrev pub Leads : NetlistLines → List (List Bool) → Event → Moment → Moment → Type 0
+abbrev pub Leads : PlainNetlist → List (List Bool) → Event → Moment → Moment → Type 0
 Leads net vectors Opens before after = OpensPhase net vectors before after
 Leads net vectors (Delivers wire) before after = DeliversPulse net wire before after
 
 -- the moment before the first opening
-abbrev pub beginning : NetlistLines → Moment
+abbrev pub beginning : PlainNetlist → Moment
 beginning net = record { stage = None; delivered = []; state = start net }
 
 -- A run: these events, the latest first, lead from the beginning to the moment. A run may end anywhere.
-abbrev pub IsRun : NetlistLines → List (List Bool) → List Event → Moment → Type 0
+abbrev pub IsRun : PlainNetlist → List (List Bool) → List Event → Moment → Type 0
 IsRun net vectors [] moment = moment ≡ beginning net
 IsRun net vectors (event ∷ earlier) moment =
     (before : Moment) × IsRun net vectors earlier before × Leads net vectors event before moment
 
 -- a moment that some run reaches
-abbrev pub IsMoment : NetlistLines → List (List Bool) → Moment → Type 0
+abbrev pub IsMoment : PlainNetlist → List (List Bool) → Moment → Type 0
 IsMoment net vectors moment = (events : List Event) × IsRun net vectors events moment
 
 -- how many phases were opened up to this one

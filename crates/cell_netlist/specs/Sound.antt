@@ -5,12 +5,13 @@ use Rattle.cell_netlist.specs.declared.kinds.Role.{Role}
 use Rattle.cell_netlist.specs.declared.kinds.Role.TheVariants.{Front, Back, Const}
 use Rattle.cell_netlist.specs.declared.lines.Rail.{Rail}
 use Rattle.cell_netlist.specs.declared.lines.Cell.{Cell}
-use Rattle.cell_netlist.specs.declared.lines.Cell.TheVariants.{La, Fa, Split, Droc}
+use Rattle.cell_netlist.specs.declared.lines.Cell.TheVariants.{Droc}
 use Rattle.cell_netlist.specs.declared.unsound.RailLine.TheVariants.{Input, Output}
 use Rattle.cell_netlist.specs.declared.unsound.Unsound.{Unsound}
 use Rattle.cell_netlist.specs.declared.unsound.Unsound.TheVariants.{WireUndriven, WireTwiceDriven, WireUnread, WireTwiceRead, PortRange, RailTwice, Loop, LooseDroc, WrongPreload}
-use Rattle.cell_netlist.specs.Lists.{IsIn, occurrences}
-use Rattle.cell_netlist.specs.NetlistLines.{NetlistLines, driven, read, outs, number_of_wires, SplittersBelow, IsDroc, Grounded}
+use Rattle.pulse_ids.specs.Lists.{IsIn, occurrences}
+use Rattle.cell_netlist.specs.Wired.{IsWired}
+use Rattle.cell_netlist.specs.Netlists.{PlainNetlist, driven, read, outs, number_of_wires, SplittersBelow, IsDroc, Grounded}
 
 -- this output of a DROC is used, on this wire
 abbrev pub IsOn : Option WireId → ℕ → Type 0
@@ -19,20 +20,16 @@ IsOn (Some used) wire = used.number ≡ wire
 
 -- a DROC of this role and preload, with its feed
 abbrev pub IsDrocOf : Cell → Role → Bool → ℕ → Type 0
-IsDrocOf (La a b out) role preload feed = ⊥
-IsDrocOf (Fa a b out) role preload feed = ⊥
-IsDrocOf (Split from left right) role preload feed = ⊥
 IsDrocOf (Droc its_role its_preload its_feed q n) role preload feed = (its_role ≡ role) × (its_preload ≡ preload) × (its_feed.number ≡ feed)
+IsDrocOf cell role preload feed = ⊥
 
 -- the output `q` of a cell is on this wire
 abbrev pub HasQ : Cell → ℕ → Type 0
-HasQ (La a b out) wire = ⊥
-HasQ (Fa a b out) wire = ⊥
-HasQ (Split from left right) wire = ⊥
 HasQ (Droc role preload feed q n) wire = IsOn q wire
+HasQ cell wire = ⊥
 
 -- a front of this preload whose `q` is the wire
-pub record IsFrontTo (net : NetlistLines) (link : ℕ) (preload : Bool) : Type 0 where
+pub record IsFrontTo (net : PlainNetlist) (link : ℕ) (preload : Bool) : Type 0 where
   pub front : Cell
   pub among : IsIn front net.cells
   pub feed : ℕ
@@ -40,31 +37,25 @@ pub record IsFrontTo (net : NetlistLines) (link : ℕ) (preload : Bool) : Type 0
   pub q : HasQ front link
 
 -- a back of this preload whose feed is the wire
-pub record IsBackFrom (net : NetlistLines) (link : ℕ) (preload : Bool) : Type 0 where
+pub record IsBackFrom (net : PlainNetlist) (link : ℕ) (preload : Bool) : Type 0 where
   pub back : Cell
   pub among : IsIn back net.cells
   pub role : IsDrocOf back Back preload link
 
 -- A DROC fits its role: a front has a `q`, which is the feed of a back, and no `n`; a back's feed is the `q` of
 -- a front; from a constant's own `n` a chain of splitters leads to its feed.
-abbrev pub FitsRole : NetlistLines → Cell → Type 0
-FitsRole net (La a b out) = Unit
-FitsRole net (Fa a b out) = Unit
-FitsRole net (Split from left right) = Unit
+abbrev pub FitsRole : PlainNetlist → Cell → Type 0
 FitsRole net (Droc Front preload feed q n) =
     (n ≡ None) × (link : ℕ) × IsOn q link × (its_preload : Bool) × IsBackFrom net link its_preload
 FitsRole net (Droc Back preload feed q n) = (its_preload : Bool) × IsFrontTo net feed.number its_preload
 FitsRole net (Droc Const preload feed q n) =
     (own : ℕ) × IsOn n own × (splitters : ℕ) × SplittersBelow net splitters own feed.number
+FitsRole net cell = Unit
 
 -- The nine rules.
-pub record IsSound (net : NetlistLines) : Type 0 where
-  -- every wire has a driver, and no wire has two
-  pub all_driven : (wire : ℕ) → wire < number_of_wires net → 1 ≤ occurrences wire (driven net)
-  pub none_driven_twice : (wire : ℕ) → wire < number_of_wires net → occurrences wire (driven net) ≤ 1
-  -- every wire has a reader, and no wire has two
-  pub all_read : (wire : ℕ) → wire < number_of_wires net → 1 ≤ occurrences wire (read net)
-  pub none_read_twice : (wire : ℕ) → wire < number_of_wires net → occurrences wire (read net) ≤ 1
+pub record IsSound (net : PlainNetlist) : Type 0 where
+  -- every wire has one driver and one reader, which are four rules
+  pub wired : IsWired net
   -- ports are in range
   pub input_ports : (rail : Rail) → IsIn rail net.input_rails → rail.port < net.inputs
   pub output_ports : (rail : Rail) → IsIn rail net.output_rails → rail.port < net.outputs
@@ -79,7 +70,7 @@ pub record IsSound (net : NetlistLines) : Type 0 where
   pub preloads : (link : ℕ) (front back : Bool) → IsFrontTo net link front → IsBackFrom net link back → back ≡ not front
 
 -- Where and how a netlist breaks a rule.
-abbrev pub Breaks : NetlistLines → Unsound → Type 0
+abbrev pub Breaks : PlainNetlist → Unsound → Type 0
 Breaks net (WireUndriven wire) = (wire.number < number_of_wires net) × (occurrences wire.number (driven net) ≡ 0)
 Breaks net (WireTwiceDriven wire) = 2 ≤ occurrences wire.number (driven net)
 Breaks net (WireUnread wire) = (wire.number < number_of_wires net) × (occurrences wire.number (read net) ≡ 0)
@@ -127,6 +118,6 @@ abbrev pub ComesBefore : Unsound → Unsound → Type 0
 ComesBefore first later = (rule_of first < rule_of later) ⊎ ((rule_of first ≡ rule_of later) × (number_in first < number_in later))
 
 -- the refusal of a netlist: it breaks that rule there, and none before
-pub record IsFirstUnsound (net : NetlistLines) (unsound : Unsound) : Type 0 where
+pub record IsFirstUnsound (net : PlainNetlist) (unsound : Unsound) : Type 0 where
   pub breaks : Breaks net unsound
   pub first : (other : Unsound) → Breaks net other → ComesBefore other unsound → ⊥

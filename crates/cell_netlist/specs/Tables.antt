@@ -8,7 +8,7 @@ use Rattle.cell_netlist.specs.declared.kinds.Port.{Port}
 use Rattle.cell_netlist.specs.declared.kinds.Port.TheVariants.{A, B}
 
 -- What a gate holds after a pulse on a port, and whether it emits. An LA emits at the second arrival, an FA
--- at the first. A second pulse on one port has no row.
+-- at the first. A second pulse on one port has no line.
 abbrev pub arrival : Gate → Held → Port → Option (Held × Bool)
 arrival La Rest A = Some (HasA, false)
 arrival La Rest B = Some (HasB, false)
@@ -23,7 +23,7 @@ arrival Fa HasB A = Some (Rest, false)
 arrival Fa HasA A = None
 arrival Fa HasB B = None
 
--- The bit of a DROC after a pulse on its feed. A pulse on a bit that is 1 has no row.
+-- The bit of a DROC after a pulse on its feed. A pulse on a bit that is 1 has no line.
 abbrev pub fed : Bool → Option Bool
 fed false = Some true
 fed true = None

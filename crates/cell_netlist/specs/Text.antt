@@ -9,7 +9,7 @@ use Rattle.cell_netlist.specs.declared.kinds.Role.TheVariants.{Front, Back, Cons
 use Rattle.cell_netlist.specs.declared.lines.Rail.{Rail}
 use Rattle.cell_netlist.specs.declared.lines.Cell.{Cell}
 use Rattle.cell_netlist.specs.declared.lines.Cell.TheVariants.{La, Fa, Split, Droc}
-use Rattle.cell_netlist.specs.NetlistLines.{NetlistLines, IsNetlist}
+use Rattle.cell_netlist.specs.Netlists.{PlainNetlist, IsNetlist}
 
 -- words parted by one space, and then LF
 abbrev pub line_of : List (List ℕ) → List ℕ
@@ -54,7 +54,7 @@ abbrev pub name_words : List ℕ → ℕ × List ℕ → List (List ℕ)
 name_words side named = side ∷ decimal named.0 ∷ named.1 ∷ []
 
 -- the words of each line of a netlist
-abbrev pub netlist_words : NetlistLines → List (List (List ℕ))
+abbrev pub netlist_words : PlainNetlist → List (List (List ℕ))
 netlist_words net = (codes "xsfq" ∷ codes "1" ∷ []) ∷ (codes "ports" ∷ decimal net.inputs ∷ decimal net.outputs ∷ []) ∷ []
     ++ map (rail_words (codes "input")) net.input_rails
     ++ map cell_words net.cells
@@ -64,10 +64,10 @@ netlist_words net = (codes "xsfq" ∷ codes "1" ∷ []) ∷ (codes "ports" ∷ d
     ++ (codes "end" ∷ []) ∷ []
 
 -- the text of a netlist
-abbrev pub text_of : NetlistLines → List ℕ
+abbrev pub text_of : PlainNetlist → List ℕ
 text_of net = flat_map line_of (netlist_words net)
 
--- no text of a netlist is a front of another's, so two netlists with one text are the same
-abbrev pub TextsAreNoFronts : Type 0
-TextsAreNoFronts = (first other : NetlistLines) → IsNetlist first → IsNetlist other → (rest : List ℕ) → text_of first ++ rest ≡ text_of other
+-- no text of a netlist is a prefix of another's, so two netlists with one text are the same
+abbrev pub TextsAreNoPrefixes : Type 0
+TextsAreNoPrefixes = (first other : PlainNetlist) → IsNetlist first → IsNetlist other → (rest : List ℕ) → text_of first ++ rest ≡ text_of other
     → (first ≡ other) × (rest ≡ [])

@@ -1,6 +1,9 @@
 //! What the definitions say of some small netlists.
 
-ghost use Rattle.cell_netlist.specs.Examples.{ToggleIsSound, ToggleRuns, ToggleBits, HalfAdderIsSound, HalfAdderIsLean, HalfAdderRuns, HalfAdderPlaces, HalfAdderAsks, ConstantRuns, UpsetsAreSeen, RulesAreRefused, FirstIsRefused, LeannessIsSeen, TextsAreThese};
+ghost use Rattle.cell_netlist.specs.ExampleRuns.{ToggleIsSound, ToggleRuns, ToggleBits, HalfAdderIsSound, HalfAdderIsLean, HalfAdderRuns, HalfAdderPlaces, HalfAdderAsks, ConstantRuns, UpsetsAreSeen};
+ghost use Rattle.cell_netlist.specs.ExampleRefusals.{RulesAreRefused, FirstIsRefused};
+ghost use Rattle.cell_netlist.specs.ExampleLeanness.{LeannessIsSeen};
+ghost use Rattle.cell_netlist.specs.ExampleTexts.{TextsAreThese};
 
 /// The runs and bits of a toggle flip-flop, the runs of a half adder and of a constant; places, asked rails and
 /// upsets; a refusal by each rule; netlists that are lean or not; two texts.

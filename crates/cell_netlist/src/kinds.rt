@@ -20,6 +20,16 @@ pub enum Held {
     HasB,
 }
 
+/// What a cell keeps between pulses: an LA or FA what it holds, a DROC its bit, and a splitter nothing. What a
+/// cell does not keep is `Rest` and 0.
+#[derive(Clone, Copy, Debug, PartialEq, Eq, Hash)]
+pub struct CellState {
+    /// What an LA or FA holds.
+    pub held: Held,
+    /// The bit of a DROC.
+    pub bit: bool,
+}
+
 /// A port of a gate.
 #[derive(Clone, Copy, Debug, PartialEq, Eq, Hash)]
 pub enum Port {

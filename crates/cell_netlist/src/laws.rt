@@ -1,16 +1,18 @@
 //! Laws on netlists and on the world of pulses. Each stands on a function that does nothing.
 
-ghost use Rattle.cell_netlist.specs.Tests.{TestsOfRulesAreRight, SoundTestIsRight, SoundIsTested};
+ghost use Rattle.cell_netlist.specs.Decisions.{DecisionsOfRulesAreRight, SoundDecisionIsRight, SoundIsDecided};
 ghost use Rattle.cell_netlist.specs.Refused.{SoundIsNotRefused, FirstRefusalsAreEqual, UnbrokenIsSound, SoundOrRefused};
-ghost use Rattle.cell_netlist.specs.LeanTests.{RootsAreUnique, RootsAreClimbed, ClimbsEndAtRoots, LeanTestIsRight};
-ghost use Rattle.cell_netlist.specs.Text.{TextsAreNoFronts};
+ghost use Rattle.cell_netlist.specs.LeanDecisions.{RootsAreUnique, RootsAreClimbed, ClimbsEndAtRoots, LeanDecisionIsRight};
+ghost use Rattle.cell_netlist.specs.Text.{TextsAreNoPrefixes};
+ghost use Rattle.cell_netlist.specs.WireLaws.{NamedWiresAreBelow, DriversAreOnTheirWires, ReadersAreOnTheirWires, OutsHavePlaces, ReadsHavePlaces, DriversAreUnique, ReadersAreUnique, DrivingCellsAreUnique, ReadingCellsAreUnique, WiresAreGrounded, WiresHaveRoots, AnotherFeedLeavesRest};
+ghost use Rattle.cell_netlist.specs.MoreLines.{MoreCellsAdd, MoreInputAdds, MoreOutputAdds};
 ghost use Rattle.cell_netlist.specs.OneReader.{PlacesAreCounted, DeliveryIsToReader, MomentsKeepShape};
 
-/// The tests of soundness tell the rules: a netlist is sound just where it passes them.
-pub fn sound_tests()
-    ensures rules { TestsOfRulesAreRight }
-    ensures sound { SoundTestIsRight }
-    ensures tested { SoundIsTested }
+/// The decisions on soundness tell the rules: a netlist is sound just where it passes them.
+pub fn sound_decisions()
+    ensures rules { DecisionsOfRulesAreRight }
+    ensures sound { SoundDecisionIsRight }
+    ensures decided { SoundIsDecided }
 {}
 
 /// A netlist is sound just where it breaks no rule; else it has one first refusal, and no other.
@@ -21,13 +23,13 @@ pub fn one_refusal()
     ensures refused { SoundOrRefused }
 {}
 
-/// Where no wire is driven twice a wire has one root, which the climb finds; the tests of leanness tell its
+/// Where no wire is driven twice a wire has one root, which the climb finds; the decisions on leanness tell its
 /// properties.
-pub fn lean_tests()
+pub fn lean_decisions()
     ensures unique { RootsAreUnique }
     ensures climbed { RootsAreClimbed }
     ensures ends { ClimbsEndAtRoots }
-    ensures lean { LeanTestIsRight }
+    ensures lean { LeanDecisionIsRight }
 {}
 
 /// A wire is driven and read as often as it has places, and a delivery is what comes of the pulse at the wire's
@@ -38,7 +40,44 @@ pub fn readers_of_wires()
     ensures shape { MomentsKeepShape }
 {}
 
-/// No text of a netlist is a front of another's: the text tells the netlist and where it ends.
+/// A wire that a line names is below the number of wires, and a place of a wire is that port of that cell, or that
+/// rail, which the wire is on.
+pub fn places_of_wires()
+    ensures below { NamedWiresAreBelow }
+    ensures drivers { DriversAreOnTheirWires }
+    ensures readers { ReadersAreOnTheirWires }
+    ensures outs { OutsHavePlaces }
+    ensures reads { ReadsHavePlaces }
+{}
+
+/// Where each wire has one driver and one reader, what drives one wire or reads one wire is one.
+pub fn one_place_a_wire()
+    ensures drivers { DriversAreUnique }
+    ensures readers { ReadersAreUnique }
+    ensures driving_cells { DrivingCellsAreUnique }
+    ensures reading_cells { ReadingCellsAreUnique }
+{}
+
+/// Every wire of a sound netlist is grounded and has a root.
+pub fn roots_of_wires()
+    ensures grounded { WiresAreGrounded }
+    ensures rooted { WiresHaveRoots }
+{}
+
+/// What more cells, one more input rail and one more output rail add to a netlist, and that all else stays.
+pub fn more_lines()
+    ensures cells { MoreCellsAdd }
+    ensures input { MoreInputAdds }
+    ensures output { MoreOutputAdds }
+{}
+
+/// Another feed of a DROC leaves all other cells, all that drives, all else that reads, where splitters lead and
+/// the grounded wires as they were.
+pub fn another_feed()
+    ensures { AnotherFeedLeavesRest }
+{}
+
+/// No text of a netlist is a prefix of another's: the text tells the netlist and where it ends.
 pub fn texts_of_netlists()
-    ensures { TextsAreNoFronts }
+    ensures { TextsAreNoPrefixes }
 {}

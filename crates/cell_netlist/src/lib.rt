@@ -4,6 +4,7 @@
 //! in excite exactly where v is 1, and in relax exactly where v is 0.
 #![tactic(auto)]
 
+mod equations;
 mod examples;
 mod kinds;
 mod laws;
@@ -13,9 +14,13 @@ mod sound_nets;
 mod tables;
 mod unsound;
 
+pub use equations::equation_runs;
 pub use examples::examples_hold;
-pub use kinds::{Ask, Gate, Held, Phase, Port, Role};
-pub use laws::{lean_tests, one_refusal, readers_of_wires, sound_tests, texts_of_netlists};
+pub use kinds::{Ask, CellState, Gate, Held, Phase, Port, Role};
+pub use laws::{
+    another_feed, lean_decisions, more_lines, one_place_a_wire, one_refusal, places_of_wires,
+    readers_of_wires, roots_of_wires, sound_decisions, texts_of_netlists,
+};
 pub use lines::{Cell, Driver, Rail, Reader};
 pub use netlists::Netlist;
 pub use sound_nets::SoundNet;

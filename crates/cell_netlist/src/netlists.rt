@@ -1,8 +1,11 @@
 //! A netlist: its ports, rails, cells and the names of its ports.
 
-ghost use Rattle.std.specs.Prelude.{◌≡◌, ◌<◌, ◌≤◌, ◌^◌, ◌++◌, ◌∷◌, [], length, OnOk, OnErr, IfOk, slice_get, option_copied};
-ghost use Rattle.cell_netlist.specs.Names.{HasRisingPorts, name_at};
-ghost use Rattle.cell_netlist.specs.NetlistLines.{empty_netlist, number_of_wires, IsNetlist, cell_bound, with_feed, cells_with_feed, IsDrocUpTo, wire_bound, used};
+ghost use Rattle.std.specs.Prelude.{◌≡◌, ◌<◌, ◌≤◌, ◌+◌, max, ◌++◌, ◌∷◌, [], length, OnOk, OnErr, IfOk, slice_get, option_copied};
+ghost use Rattle.pulse_ids.specs.Quantities.{greatest_of};
+ghost use Rattle.pulse_ids.specs.declared.quantities.Quantity.TheVariants.{Wires};
+ghost use Rattle.pulse_ids.specs.Names.{IsPortName};
+ghost use Rattle.cell_netlist.specs.Names.{IsAboveAll, HasRisingPorts, name_at};
+ghost use Rattle.cell_netlist.specs.Netlists.{empty_netlist, number_of_wires, most_lines, IsNetlist, HasFewLines, wire_of, cell_bound, with_feed, cells_with_feed, IsDrocUpTo, wire_bound, used};
 
 use crate::lines::{Cell, Rail};
 use pulse_ids::{CellId, Ident, Name, NoMemory, RailId, Row, WireId};
@@ -24,9 +27,9 @@ pub struct Netlist {
 }
 
 impl Model for Netlist {
-    ghost use Rattle.cell_netlist.specs.NetlistLines.{NetlistLines, netlist_of, IsKept};
+    ghost use Rattle.cell_netlist.specs.Netlists.{PlainNetlist, netlist_of, IsKept};
 
-    ghost Value = { NetlistLines };
+    ghost Value = { PlainNetlist };
 
     ghost view = { λ net. netlist_of net.inputs net.outputs net.input_rails net.cells net.output_rails
         net.input_names.items net.output_names.items };
@@ -116,10 +119,12 @@ impl Netlist {
     }
 
     /// The number of wires: one more than the greatest wire number that stands in the netlist, and 0 where none
-    /// stands. It is at most 4,194,304.
+    /// stands. It is at most 4,194,304. Its clauses tell too what is so of every netlist: it has a text, and at
+    /// most 2^27 lines of each kind.
     pub fn wires(&self) -> u32
         ensures value { result ≡ number_of_wires self.now }
         ensures netlist { IsNetlist self.now }
+        ensures lines { HasFewLines self.now }
     {
         self.wires
     }
@@ -127,9 +132,10 @@ impl Netlist {
     /// Adds an input rail at the end and answers its number. The netlist has fewer than 2^27 input rails, and the
     /// wire is below 4,194,304. Where memory is refused the netlist is unchanged.
     pub fn add_input(&mut self, rail: Rail) -> Result<RailId, NoMemory>
-        requires room { length self.old.input_rails < 2 ^ 27 }
-        requires wire { rail.wire.number < 2 ^ 22 }
+        requires room { length self.old.input_rails < most_lines }
+        requires wire { rail.wire.number < greatest_of Wires }
         ensures added { OnOk result (self.new ≡ record self.old { input_rails = self.old.input_rails ++ rail ∷ [] }) }
+        ensures wires { OnOk result (number_of_wires self.new ≡ max (number_of_wires self.old) (wire_of rail + 1)) }
         ensures number { IfOk result (λ id. id.number ≡ length self.old.input_rails) }
         ensures unchanged { OnErr result (self.new ≡ self.old) }
     {
@@ -141,9 +147,10 @@ impl Netlist {
     /// Adds a cell at the end and answers its number. The netlist has fewer than 2^27 cells, and each wire of the
     /// cell is below 4,194,304. Where memory is refused the netlist is unchanged.
     pub fn add_cell(&mut self, cell: Cell) -> Result<CellId, NoMemory>
-        requires room { length self.old.cells < 2 ^ 27 }
-        requires wires { cell_bound cell ≤ 2 ^ 22 }
+        requires room { length self.old.cells < most_lines }
+        requires wires { cell_bound cell ≤ greatest_of Wires }
         ensures added { OnOk result (self.new ≡ record self.old { cells = self.old.cells ++ cell ∷ [] }) }
+        ensures wires { OnOk result (number_of_wires self.new ≡ max (number_of_wires self.old) (cell_bound cell)) }
         ensures number { IfOk result (λ id. id.number ≡ length self.old.cells) }
         ensures unchanged { OnErr result (self.new ≡ self.old) }
     {
@@ -156,8 +163,9 @@ impl Netlist {
     /// above the new one, so that the number of wires does not fall. The new feed is below 4,194,304.
     pub fn set_feed(&mut self, cell: CellId, feed: WireId)
         requires droc { IsDrocUpTo (slice_get self.old.cells cell.number) feed.number }
-        requires wire { feed.number < 2 ^ 22 }
-        ensures { self.new ≡ record self.old { cells = cells_with_feed cell.number feed self.old.cells } }
+        requires wire { feed.number < greatest_of Wires }
+        ensures fed { self.new ≡ record self.old { cells = cells_with_feed cell.number feed self.old.cells } }
+        ensures wires { number_of_wires self.new ≡ max (number_of_wires self.old) (feed.number + 1) }
     {
         let fed = fed_by(feed, *self.cells.get(cell));
         self.cells.set(cell, fed);
@@ -167,9 +175,10 @@ impl Netlist {
     /// Adds an output rail at the end and answers its number. The netlist has fewer than 2^27 output rails, and the
     /// wire is below 4,194,304. Where memory is refused the netlist is unchanged.
     pub fn add_output(&mut self, rail: Rail) -> Result<RailId, NoMemory>
-        requires room { length self.old.output_rails < 2 ^ 27 }
-        requires wire { rail.wire.number < 2 ^ 22 }
+        requires room { length self.old.output_rails < most_lines }
+        requires wire { rail.wire.number < greatest_of Wires }
         ensures added { OnOk result (self.new ≡ record self.old { output_rails = self.old.output_rails ++ rail ∷ [] }) }
+        ensures wires { OnOk result (number_of_wires self.new ≡ max (number_of_wires self.old) (wire_of rail + 1)) }
         ensures number { IfOk result (λ id. id.number ≡ length self.old.output_rails) }
         ensures unchanged { OnErr result (self.new ≡ self.old) }
     {
@@ -177,11 +186,37 @@ impl Netlist {
         self.wires = self.wires.max(rail.wire.number() + 1);
         Ok(id)
     }
+
+    /// Names an input port. The port is in range and above every input port named before, and the name has 1 to
+    /// 1,023 bytes without LF. Where memory is refused the netlist is unchanged and the name is given up.
+    pub fn name_input(&mut self, port: u32, name: Name) -> Result<(), NoMemory>
+        requires range { port < self.old.inputs }
+        requires above { IsAboveAll port self.old.input_names }
+        requires name { IsPortName name }
+        ensures named { OnOk result (self.new ≡ record self.old { input_names = self.old.input_names ++ (port, name) ∷ [] }) }
+        ensures unchanged { OnErr result (self.new ≡ self.old) }
+    {
+        self.input_names.push((port, name))?;
+        Ok(())
+    }
+
+    /// Names an output port. The port is in range and above every output port named before, and the name has 1 to
+    /// 1,023 bytes without LF. Where memory is refused the netlist is unchanged and the name is given up.
+    pub fn name_output(&mut self, port: u32, name: Name) -> Result<(), NoMemory>
+        requires range { port < self.old.outputs }
+        requires above { IsAboveAll port self.old.output_names }
+        requires name { IsPortName name }
+        ensures named { OnOk result (self.new ≡ record self.old { output_names = self.old.output_names ++ (port, name) ∷ [] }) }
+        ensures unchanged { OnErr result (self.new ≡ self.old) }
+    {
+        self.output_names.push((port, name))?;
+        Ok(())
+    }
 }
 
 // One more than the greatest wire number in a cell.
 fn bound_of(cell: Cell) -> u32
-    requires { cell_bound cell ≤ 2 ^ 22 }
+    requires { cell_bound cell ≤ greatest_of Wires }
     ensures { result ≡ cell_bound cell }
 {
     match cell {
@@ -199,7 +234,7 @@ fn bound_of(cell: Cell) -> u32
 
 // One more than the wire number of an output, and 0 for an unused one.
 fn bound_of_output(output: Option<WireId>) -> u32
-    requires { wire_bound (used output) ≤ 2 ^ 22 }
+    requires { wire_bound (used output) ≤ greatest_of Wires }
     ensures { result ≡ wire_bound (used output) }
 {
     match output {
@@ -238,72 +273,5 @@ fn name_of(names: &[(u32, Name)], port: u32) -> Option<&Name>
     match names.binary_search_by_key(&port, |named| named.0) {
         Ok(at) => Some(&names[at].1),
         Err(_) => None,
-    }
-}
-
-#[cfg(test)]
-mod tests {
-    use super::*;
-    use crate::kinds::Role;
-    use pulse_ids::Sign;
-    use std::test::Fail;
-
-    fn positive(wire: u32) -> Rail
-        ensures { result.wire.number ≡ wire }
-    {
-        Rail {
-            port: 0,
-            sign: Sign::Pos,
-            wire: WireId::new(wire),
-        }
-    }
-
-    #[test]
-    fn rails_raise_the_number_of_wires(rt: HostRuntime) -> Result<(), Fail> {
-        let mut net = Netlist::new(rt.alloc(), 1, 2);
-        assert_eq!(rt; net.wires(), 0);
-        assert_eq!(rt; net.add_input(positive(6))?.number(), 0);
-        assert_eq!(rt; net.wires(), 7);
-        assert_eq!(rt; net.add_output(positive(4))?.number(), 0);
-        assert_eq!(rt; net.wires(), 7);
-        net.add_output(positive(9))?;
-        assert_eq!(rt; net.wires(), 10);
-        assert_eq!(rt; (net.inputs(), net.outputs()), (1, 2));
-        assert_eq!(rt; net.input_rails().items(), [positive(6)].as_slice());
-        assert_eq!(rt;
-            net.output_rails().items(),
-            [positive(4), positive(9)].as_slice()
-        );
-        assert!(rt; net.cells().is_empty());
-        assert!(rt; net.input_name(0).is_none());
-        assert!(rt; net.output_name(1).is_none());
-        assert!(rt; net.input_names().is_empty());
-        assert!(rt; net.output_names().is_empty());
-        Ok(())
-    }
-
-    #[test]
-    fn cells_raise_the_number_of_wires(rt: HostRuntime) -> Result<(), Fail> {
-        let mut net = Netlist::new(rt.alloc(), 0, 0);
-        let split = Cell::Split {
-            from: WireId::new(2),
-            left: WireId::new(7),
-            right: WireId::new(3),
-        };
-        let constant = Cell::Droc {
-            role: Role::Const,
-            preload: true,
-            feed: WireId::new(2),
-            q: None,
-            n: Some(WireId::new(2)),
-        };
-        assert_eq!(rt; net.add_cell(constant)?.number(), 0);
-        assert_eq!(rt; net.wires(), 3);
-        assert_eq!(rt; net.add_cell(split)?.number(), 1);
-        assert_eq!(rt; net.wires(), 8);
-        net.set_feed(CellId::new(0), WireId::new(9));
-        assert_eq!(rt; *net.cells().get(CellId::new(1)), split);
-        assert_eq!(rt; net.wires(), 10);
-        Ok(())
     }
 }

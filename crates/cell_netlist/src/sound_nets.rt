@@ -5,7 +5,7 @@ ghost use Rattle.std.specs.List.{flat_map};
 ghost use Rattle.pulse_ids.specs.Ids.{numbered};
 ghost use Rattle.cell_netlist.specs.declared.lines.Driver.TheVariants as drivers_of;
 ghost use Rattle.cell_netlist.specs.declared.lines.Reader.TheVariants as readers_of;
-ghost use Rattle.cell_netlist.specs.NetlistLines.{number_of_wires, wire_bound, wire_of, outs, reads, used};
+ghost use Rattle.cell_netlist.specs.Netlists.{number_of_wires, wire_bound, wire_of, outs, reads, used};
 ghost use Rattle.cell_netlist.specs.Places.{drivers, readers, driving, reading, place_if_used, cell_places, rail_places, driving_places, reading_places};
 ghost use Rattle.cell_netlist.specs.PlaceTables.{written};
 ghost use Rattle.cell_netlist.specs.Sound.{IsSound};
@@ -25,14 +25,15 @@ pub struct SoundNet {
 }
 
 impl Model for SoundNet {
-    ghost use Rattle.cell_netlist.specs.NetlistLines.{NetlistLines};
+    ghost use Rattle.cell_netlist.specs.Netlists.{PlainNetlist};
     ghost use Rattle.cell_netlist.specs.PlaceTables.{HasPlaceTables};
+    ghost use Rattle.cell_netlist.specs.Sound.{IsSound};
 
-    ghost Value = { NetlistLines };
+    ghost Value = { PlainNetlist };
 
     ghost view = { λ sound. sound.net };
 
-    ghost invariant = { λ sound. HasPlaceTables sound.net sound.drivers sound.readers };
+    ghost invariant = { λ sound. IsSound sound.net × HasPlaceTables sound.net sound.drivers sound.readers };
 }
 
 impl SoundNet {
@@ -113,7 +114,7 @@ fn drive_by_rails(rails: &Row<RailId, Rail>, table: &mut Row<WireId, Driver>)
     requires { wire_bound (map wire_of rails.now) ≤ length table.old }
     ensures { table.new ≡ written (rail_places (λ r. drivers_of.Input (numbered r)) 0 rails.now) table.old }
 {
-    'rails: for number in 0..rails.len() {
+    for number in 0..rails.len() {
         let id = RailId::new(number);
         table.set(rails.get(id).wire, Driver::Input(id));
     }
@@ -123,7 +124,7 @@ fn read_by_rails(rails: &Row<RailId, Rail>, table: &mut Row<WireId, Reader>)
     requires { wire_bound (map wire_of rails.now) ≤ length table.old }
     ensures { table.new ≡ written (rail_places (λ r. readers_of.Output (numbered r)) 0 rails.now) table.old }
 {
-    'rails: for number in 0..rails.len() {
+    for number in 0..rails.len() {
         let id = RailId::new(number);
         table.set(rails.get(id).wire, Reader::Output(id));
     }
@@ -133,7 +134,7 @@ fn drive_by_cells(cells: &Row<CellId, Cell>, table: &mut Row<WireId, Driver>)
     requires { wire_bound (flat_map outs cells.now) ≤ length table.old }
     ensures { table.new ≡ written (cell_places driving 0 cells.now) table.old }
 {
-    'cells: for number in 0..cells.len() {
+    for number in 0..cells.len() {
         let id = CellId::new(number);
         drive_by_cell(id, *cells.get(id), table);
     }
@@ -143,7 +144,7 @@ fn read_by_cells(cells: &Row<CellId, Cell>, table: &mut Row<WireId, Reader>)
     requires { wire_bound (flat_map reads cells.now) ≤ length table.old }
     ensures { table.new ≡ written (cell_places reading 0 cells.now) table.old }
 {
-    'cells: for number in 0..cells.len() {
+    for number in 0..cells.len() {
         let id = CellId::new(number);
         read_by_cell(id, *cells.get(id), table);
     }

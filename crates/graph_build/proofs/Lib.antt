@@ -1,18 +1,13 @@
-pub mod Growing
-pub mod Changes
+-- Lemmas by subject.
+pub mod BuildOrders
+pub mod CubeSteps
 pub mod EquationSteps
 pub mod EquationValues
-pub mod Founded
-pub mod Growth
-pub mod Keys
-pub mod Known
+pub mod GraphRuns
+pub mod GrowthLemmas
 pub mod LiteralValues
-pub mod Marks
-pub mod Members
 pub mod NetLiterals
 pub mod Results
-pub mod RowSteps
-pub mod Shown
 pub mod SizeLemmas
-pub mod Tabled
-pub mod Visits
+pub mod SmallGraphs
+pub mod SmallOrders

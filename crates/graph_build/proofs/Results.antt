@@ -11,25 +11,27 @@ use Rattle.aig_core.specs.Values.{value_of}
 use Rattle.source_machine.specs.declared.machines.Latch.{Latch}
 use Rattle.source_machine.specs.declared.machines.RawMachine.{RawMachine}
 use Rattle.source_machine.specs.Machines.{PlainMachine, PlainLiteral, literal_of, latch_of, machine_of}
-use Rattle.source_machine.specs.Members.{IsIn}
+use Rattle.pulse_ids.specs.Lists.{IsIn, bit_at}
 use Rattle.source_machine.specs.Fitting.{Fits, LiteralFits, size_of}
-use Rattle.source_machine.specs.Runs.{Agrees, bit_in, literal_value, output_bits, next_state}
-use Rattle.source_machine.specs.Grounding.{row_nets, used_nets, IsWellFounded}
+use Rattle.source_machine.specs.Runs.{Agrees, literal_value, output_bits, next_state}
+use Rattle.source_machine.specs.Grounding.{cube_nets, used_nets, IsWellFounded}
 use Rattle.graph_build.specs.Built.{AreWithin, IsWithinGraph, IsGraphOf}
 use Rattle.graph_build.specs.Literals.{node_literal, HasLiterals}
 use Rattle.graph_build.specs.Orders.{equation_nets, IsBuilt, IsBuildOrder}
 use Rattle.graph_build.proofs.LiteralValues.{node_literal_value, node_literal_within}
-use Rattle.graph_build.proofs.Members.{same_or_not, IsIn-append, IsIn-left, IsIn-right, IsIn-map, IsIn-at, place_of}
+use Rattle.pulse_ids.proofs.CallerLemmas.{IsIn-append, IsIn-left, IsIn-right, IsIn-map, IsIn-at, index_of}
+use Rattle.std.proofs.lemmas.Bool.{cases_eq}
 use Rattle.graph_build.proofs.NetLiterals.{latch_fits}
 
 -- each net that is used has its literal in the end
 pub used_built : (machine : PlainMachine) (order : List ℕ) → IsWellFounded machine → IsBuildOrder machine order → (net : ℕ) → IsIn net (used_nets machine) → IsBuilt machine order net
-used_built machine order founded h net i = go (same_or_not net 0)
+used_built machine order founded h net i = go (cases_eq net 0)
   where
     of_equation : IsIn net (equation_nets machine) → IsBuilt machine order net
     of_equation j =
-        let p = place_of net (equation_nets machine) 0 j in
-        inr (subst (λ n. IsIn n (map (slice_index (equation_nets machine)) order)) p.2 (IsIn-map (slice_index (equation_nets machine)) p.0 order (h.complete p.0 (omega (arith, p.1, length-map machine.equations (λ equation. equation.net))))))
+        let p = index_of net (equation_nets machine) 0 j in
+        inr (subst (λ n. IsIn n (map (slice_index (equation_nets machine)) order)) p.2
+        (IsIn-map (slice_index (equation_nets machine)) p.0 order (h.complete p.0 (omega (arith, p.1, length-map machine.equations (λ equation. equation.net))))))
 
     of_rest : IsIn net (map (λ latch. latch.out) machine.latches) ⊎ IsIn net (equation_nets machine) → IsBuilt machine order net
     of_rest (inl j) = inl (inr (IsIn-right net machine.inputs _ j))
@@ -69,7 +71,9 @@ module _ (raw : RawMachine) (fits : Fits (machine_of raw)) where
 
   pub outputs_low : (width : ℕ) → width ≡ raw.nets + 1 → All (λ (output : Lit). output.id.number < width) raw.outputs.items
   outputs_low width e i d lt =
-      let low : LiteralFits raw.nets (literal_of (get_or raw.outputs.items i d)) = subst (LiteralFits raw.nets) (get_or-map literal_of raw.outputs.items i d (literal_of d) lt) (fits.nets_fit.outputs_fit i (literal_of d) (omega (arith, lt, length-map raw.outputs.items literal_of))) in
+      let low : LiteralFits raw.nets (literal_of (get_or raw.outputs.items i d)) =
+      subst (LiteralFits raw.nets) (get_or-map literal_of raw.outputs.items i d (literal_of d) lt)
+      (fits.nets_fit.outputs_fit i (literal_of d) (omega (arith, lt, length-map raw.outputs.items literal_of))) in
       omega (arith, low, e)
 
   pub nexts_low : (width : ℕ) → width ≡ raw.nets + 1 → All (λ (latch : Latch). latch.next.id.number < width) raw.latches.items
@@ -77,45 +81,76 @@ module _ (raw : RawMachine) (fits : Fits (machine_of raw)) where
 
   output_used : (i : ℕ) (d : Lit) → i < length raw.outputs.items → IsIn (get_or raw.outputs.items i d).id.number (used_nets machine)
   output_used i d lt =
-      IsIn-right (get_or raw.outputs.items i d).id.number (flat_map row_nets machine.equations) _ (IsIn-right (get_or raw.outputs.items i d).id.number (map (λ latch. latch.next.net) machine.latches) _ (IsIn-map (λ literal. literal.net) (literal_of (get_or raw.outputs.items i d)) machine.outputs (IsIn-map literal_of (get_or raw.outputs.items i d) raw.outputs.items (IsIn-at raw.outputs.items i d lt))))
+      IsIn-right (get_or raw.outputs.items i d).id.number (flat_map cube_nets machine.equations) _
+      (IsIn-right (get_or raw.outputs.items i d).id.number (map (λ latch. latch.next.net) machine.latches) _
+      (IsIn-map (λ literal. literal.net) (literal_of (get_or raw.outputs.items i d)) machine.outputs
+      (IsIn-map literal_of (get_or raw.outputs.items i d) raw.outputs.items (IsIn-at raw.outputs.items i d lt))))
 
   next_used : (i : ℕ) (d : Latch) → i < length raw.latches.items → IsIn (get_or raw.latches.items i d).next.id.number (used_nets machine)
   next_used i d lt =
-      IsIn-right (get_or raw.latches.items i d).next.id.number (flat_map row_nets machine.equations) _ (IsIn-left (get_or raw.latches.items i d).next.id.number (map (λ latch. latch.next.net) machine.latches) _ (IsIn-map (λ latch. latch.next.net) (latch_of (get_or raw.latches.items i d)) machine.latches (IsIn-map latch_of (get_or raw.latches.items i d) raw.latches.items (IsIn-at raw.latches.items i d lt))))
+      IsIn-right (get_or raw.latches.items i d).next.id.number (flat_map cube_nets machine.equations) _
+      (IsIn-left (get_or raw.latches.items i d).next.id.number (map (λ latch. latch.next.net) machine.latches) _
+      (IsIn-map (λ latch. latch.next.net) (latch_of (get_or raw.latches.items i d)) machine.latches
+      (IsIn-map latch_of (get_or raw.latches.items i d) raw.latches.items (IsIn-at raw.latches.items i d lt))))
 
-  module _ (graph : PlainGraph) (literals : List NodeLit) (order : List ℕ) (founded : IsWellFounded machine) (h : IsBuildOrder machine order) (has : HasLiterals machine graph literals (IsBuilt machine order)) where
-    value_is : (state vector valuation : List Bool) → Agrees machine state vector valuation → (literal : PlainLiteral) → IsIn literal.net (used_nets machine) → value_of graph state vector (node_literal literals literal) ≡ literal_value (bit_in valuation) literal
+  module _ (graph : PlainGraph) (literals : List NodeLit) (order : List ℕ) (founded : IsWellFounded machine) (h : IsBuildOrder machine order)
+      (has : HasLiterals machine graph literals (IsBuilt machine order)) where
+    value_is : (state vector valuation : List Bool) → Agrees machine state vector valuation → (literal : PlainLiteral) → IsIn literal.net (used_nets machine)
+        → value_of graph state vector (node_literal literals literal) ≡ literal_value (bit_at valuation) literal
     value_is state vector valuation agrees literal i =
-        node_literal_value graph literals state vector literal ∙ ap (λ b. if literal.negated then not b else b) (has.worth literal.net (used_built machine order founded h literal.net i) state vector valuation agrees)
+        node_literal_value graph literals state vector literal
+        ∙ ap (λ b. if literal.negated then not b else b) (has.worth literal.net (used_built machine order founded h literal.net i) state vector valuation agrees)
 
-    pub output_values : (given : List NodeLit) → given ≡ map (λ (literal : Lit). node_literal literals (literal_of literal)) raw.outputs.items → (state vector valuation : List Bool) → Agrees machine state vector valuation → map (value_of graph state vector) given ≡ output_bits machine valuation
+    pub output_values : (given : List NodeLit) → given ≡ map (λ (literal : Lit). node_literal literals (literal_of literal)) raw.outputs.items
+        → (state vector valuation : List Bool) → Agrees machine state vector valuation → map (value_of graph state vector) given ≡ output_bits machine valuation
     output_values given e state vector valuation agrees =
-        ap (λ l. map (value_of graph state vector) l) e ∙ same_mapped (λ (literal : Lit). node_literal literals (literal_of literal)) literal_of (value_of graph state vector) (literal_value (bit_in valuation)) raw.outputs.items (λ i d lt. value_is state vector valuation agrees (literal_of (get_or raw.outputs.items i d)) (output_used i d lt))
+        ap (λ l. map (value_of graph state vector) l) e
+        ∙ same_mapped (λ (literal : Lit). node_literal literals (literal_of literal)) literal_of (value_of graph state vector)
+        (literal_value (bit_at valuation)) raw.outputs.items (λ i d lt. value_is state vector valuation agrees (literal_of (get_or raw.outputs.items i d)) (output_used i d lt))
 
-    pub next_values : (given : List NodeLit) → given ≡ map (λ (latch : Latch). node_literal literals (literal_of latch.next)) raw.latches.items → (state vector valuation : List Bool) → Agrees machine state vector valuation → map (value_of graph state vector) given ≡ next_state machine valuation
+    pub next_values : (given : List NodeLit) → given ≡ map (λ (latch : Latch). node_literal literals (literal_of latch.next)) raw.latches.items
+        → (state vector valuation : List Bool) → Agrees machine state vector valuation → map (value_of graph state vector) given ≡ next_state machine valuation
     next_values given e state vector valuation agrees =
-        ap (λ l. map (value_of graph state vector) l) e ∙ same_mapped (λ (latch : Latch). node_literal literals (literal_of latch.next)) latch_of (value_of graph state vector) (λ latch. literal_value (bit_in valuation) latch.next) raw.latches.items (λ i d lt. value_is state vector valuation agrees (literal_of (get_or raw.latches.items i d).next) (next_used i d lt))
+        ap (λ l. map (value_of graph state vector) l) e
+        ∙ same_mapped (λ (latch : Latch). node_literal literals (literal_of latch.next)) latch_of (value_of graph state vector)
+        (λ latch. literal_value (bit_at valuation) latch.next) raw.latches.items
+        (λ i d lt. value_is state vector valuation agrees (literal_of (get_or raw.latches.items i d).next) (next_used i d lt))
 
     pub outputs_within : (given : List NodeLit) → given ≡ map (λ (literal : Lit). node_literal literals (literal_of literal)) raw.outputs.items → AreWithin graph given
     outputs_within given e =
-        subst (AreWithin graph) (sym e) (within_mapped (λ (literal : Lit). node_literal literals (literal_of literal)) graph raw.outputs.items (λ i d lt. node_literal_within graph literals (literal_of (get_or raw.outputs.items i d)) has.within (outputs_low (length literals) has.width i d lt)))
+        subst (AreWithin graph) (sym e) (within_mapped (λ (literal : Lit). node_literal literals (literal_of literal)) graph raw.outputs.items
+        (λ i d lt. node_literal_within graph literals (literal_of (get_or raw.outputs.items i d)) has.within (outputs_low (length literals) has.width i d lt)))
 
     pub nexts_within : (given : List NodeLit) → given ≡ map (λ (latch : Latch). node_literal literals (literal_of latch.next)) raw.latches.items → AreWithin graph given
     nexts_within given e =
-        subst (AreWithin graph) (sym e) (within_mapped (λ (latch : Latch). node_literal literals (literal_of latch.next)) graph raw.latches.items (λ i d lt. node_literal_within graph literals (literal_of (get_or raw.latches.items i d).next) has.within (nexts_low (length literals) has.width i d lt)))
+        subst (AreWithin graph) (sym e) (within_mapped (λ (latch : Latch). node_literal literals (literal_of latch.next)) graph raw.latches.items
+        (λ i d lt. node_literal_within graph literals (literal_of (get_or raw.latches.items i d).next) has.within (nexts_low (length literals) has.width i d lt)))
 
     -- all literals stand in the graph, one for each output and latch
-    pub all_within : (outputs nexts : List NodeLit) (inits : List Bool) → IsKept graph → outputs ≡ map (λ (literal : Lit). node_literal literals (literal_of literal)) raw.outputs.items → nexts ≡ map (λ (latch : Latch). node_literal literals (literal_of latch.next)) raw.latches.items → inits ≡ map (λ (latch : Latch). latch.init) raw.latches.items → IsWithinGraph (record { graph = graph; outputs = outputs; nexts = nexts; inits = inits })
+    pub all_within : (outputs nexts : List NodeLit) (inits : List Bool) → IsKept graph
+        → outputs ≡ map (λ (literal : Lit). node_literal literals (literal_of literal)) raw.outputs.items
+        → nexts ≡ map (λ (latch : Latch). node_literal literals (literal_of latch.next)) raw.latches.items → inits ≡ map (λ (latch : Latch). latch.init) raw.latches.items
+        → IsWithinGraph (record { graph = graph; outputs = outputs; nexts = nexts; inits = inits })
     all_within outputs nexts inits kept eo en ei = record {
       kept = kept;
       outputs_within = outputs_within outputs eo;
       nexts_within = nexts_within nexts en;
-      outputs_fit = omega (arith, ap (λ l. length l) eo, length-map raw.outputs.items (λ (literal : Lit). node_literal literals (literal_of literal)), length-map raw.outputs.items literal_of, fits.limits.few_outputs);
-      one_next_each = ap (λ l. length l) en ∙ length-map raw.latches.items (λ (latch : Latch). node_literal literals (literal_of latch.next)) ∙ sym (length-map raw.latches.items latch_of) ∙ sym has.latches;
+      outputs_fit = omega (
+        arith,
+        ap (λ l. length l) eo,
+        length-map raw.outputs.items (λ (literal : Lit). node_literal literals (literal_of literal)),
+        length-map raw.outputs.items literal_of,
+        fits.limits.few_outputs,
+      );
+      one_next_each = ap (λ l. length l) en ∙ length-map raw.latches.items (λ (latch : Latch). node_literal literals (literal_of latch.next))
+          ∙ sym (length-map raw.latches.items latch_of) ∙ sym has.latches;
       one_init_each = ap (λ l. length l) ei ∙ length-map raw.latches.items (λ (latch : Latch). latch.init) ∙ sym (length-map raw.latches.items latch_of) ∙ sym has.latches;
     }
 
-    pub graph_of : (outputs nexts : List NodeLit) (inits : List Bool) → IsKept graph → length graph.pairs ≤ size_of machine → outputs ≡ map (λ (literal : Lit). node_literal literals (literal_of literal)) raw.outputs.items → nexts ≡ map (λ (latch : Latch). node_literal literals (literal_of latch.next)) raw.latches.items → inits ≡ map (λ (latch : Latch). latch.init) raw.latches.items → IsGraphOf machine (record { graph = graph; outputs = outputs; nexts = nexts; inits = inits })
+    pub graph_of : (outputs nexts : List NodeLit) (inits : List Bool) → IsKept graph → length graph.pairs ≤ size_of machine
+        → outputs ≡ map (λ (literal : Lit). node_literal literals (literal_of literal)) raw.outputs.items
+        → nexts ≡ map (λ (latch : Latch). node_literal literals (literal_of latch.next)) raw.latches.items → inits ≡ map (λ (latch : Latch). latch.init) raw.latches.items
+        → IsGraphOf machine (record { graph = graph; outputs = outputs; nexts = nexts; inits = inits })
     graph_of outputs nexts inits kept small eo en ei = record {
       within = all_within outputs nexts inits kept eo en ei;
       inputs = has.inputs;

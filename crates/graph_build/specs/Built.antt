@@ -1,6 +1,8 @@
 -- A graph with literals for the outputs and next states of a machine, and what it has to do with the machine.
-use Rattle.std.specs.Prelude.{◌≡◌, ℕ, ◌<◌, ◌≤◌, ◌^◌, List, Bool, map, length, slice_get, Some}
+use Rattle.std.specs.Prelude.{◌≡◌, ℕ, ◌<◌, ◌≤◌, List, Bool, map, length, slice_get, Some}
 use Rattle.pulse_ids.specs.Ids.{NodeLit}
+use Rattle.pulse_ids.specs.Quantities.{greatest_of}
+use Rattle.pulse_ids.specs.declared.quantities.Quantity.TheVariants.{Outputs}
 use Rattle.aig_core.specs.Graphs.{PlainGraph, count_of}
 use Rattle.aig_core.specs.Tidy.{IsKept}
 use Rattle.aig_core.specs.Values.{value_of}
@@ -25,7 +27,7 @@ pub record IsWithinGraph (built : PlainBuilt) : Type 0 where
   pub kept : IsKept built.graph
   pub outputs_within : AreWithin built.graph built.outputs
   pub nexts_within : AreWithin built.graph built.nexts
-  pub outputs_fit : length built.outputs ≤ 2 ^ 14
+  pub outputs_fit : length built.outputs ≤ greatest_of Outputs
   pub one_next_each : length built.nexts ≡ built.graph.latches
   pub one_init_each : length built.inits ≡ built.graph.latches
 

@@ -7,9 +7,9 @@ use Rattle.source_machine.specs.Examples.{plain, inverse, nameless, toggle}
 use Rattle.graph_build.specs.Built.{PlainBuilt, IsGraphOf}
 use Rattle.graph_build.specs.Orders.{IsBuildOrder}
 
--- the net is the conjunction of the row
+-- the net is the conjunction of the cube
 abbrev pub product : ℕ → List PlainLiteral → PlainEquation
-product net row = record { net = net; on = true; rows = row ∷ [] }
+product net cube = record { net = net; on = true; cubes = cube ∷ [] }
 
 -- net 6 is the conjunction of the inputs, net 7 that of their complements, and net 3 that of the complements of both, which is the sum
 abbrev pub adder : PlainMachine

@@ -5,7 +5,8 @@ use Rattle.aig_core.specs.Folds.{zero_literal, complement}
 use Rattle.aig_core.specs.Graphs.{PlainGraph, count_of}
 use Rattle.aig_core.specs.Values.{value_of}
 use Rattle.source_machine.specs.Machines.{PlainLiteral, PlainMachine}
-use Rattle.source_machine.specs.Runs.{Agrees, bit_in}
+use Rattle.source_machine.specs.Runs.{Agrees}
+use Rattle.pulse_ids.specs.Lists.{bit_at}
 
 -- the literal of a net in the list of the nets' literals
 abbrev pub literal_at : List NodeLit → ℕ → NodeLit
@@ -28,7 +29,7 @@ AllWithin graph literals =
 -- the net's literal has the bit that the net has in each valuation that agrees
 abbrev pub IsWorth : PlainMachine → PlainGraph → List NodeLit → ℕ → Type 0
 IsWorth machine graph literals net =
-    (state vector valuation : List Bool) → Agrees machine state vector valuation → net_value graph literals state vector net ≡ bit_in valuation net
+    (state vector valuation : List Bool) → Agrees machine state vector valuation → net_value graph literals state vector net ≡ bit_at valuation net
 
 -- the graph has at most so many conjunctions more, and what was there keeps its value
 pub record Grew (most : ℕ) (old new : PlainGraph) : Type 0 where

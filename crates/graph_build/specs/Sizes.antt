@@ -3,13 +3,13 @@ use Rattle.std.specs.Prelude.{ℕ, ◌+◌, ◌≤◌, List, [], ◌∷◌, leng
 use Rattle.pulse_ids.specs.Ids.{NodeLit}
 use Rattle.aig_core.specs.Graphs.{PlainGraph}
 use Rattle.source_machine.specs.Machines.{PlainMachine}
-use Rattle.source_machine.specs.Fitting.{size_of_rows, size_of}
+use Rattle.source_machine.specs.Fitting.{size_of_cubes, size_of}
 use Rattle.graph_build.specs.Literals.{HasLiterals}
 use Rattle.graph_build.specs.Orders.{IsBuilt}
 
--- the number of rows and row literals of each equation
+-- the number of cubes and cube literals of each equation
 abbrev pub equation_sizes : PlainMachine → List ℕ
-equation_sizes machine = map (λ equation. size_of_rows equation.rows) machine.equations
+equation_sizes machine = map (λ equation. size_of_cubes equation.cubes) machine.equations
 
 -- the sum of the sizes with these numbers
 abbrev pub sum_at : List ℕ → List ℕ → ℕ

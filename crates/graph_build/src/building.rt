@@ -2,10 +2,10 @@
 
 ghost use Rattle.std.specs.Prelude.{◌≡◌, ◌<◌, ◌≤◌, ◌+◌, ◌⊎◌, [], length, map, All, IfOk, OnOk};
 ghost use Rattle.source_machine.specs.Machines.{literal_of, machine_of};
-ghost use Rattle.source_machine.specs.Members.{IsIn};
+ghost use Rattle.pulse_ids.specs.Lists.{IsIn};
 ghost use Rattle.source_machine.specs.Fitting.{Fits, size_of};
 ghost use Rattle.source_machine.specs.Grounding.{IsWellFounded};
-ghost use Rattle.source_machine.specs.Orders.{start_nets};
+ghost use Rattle.source_machine.specs.Dependencies.{start_nets};
 ghost use Rattle.graph_build.specs.Built.{IsGraphOf};
 ghost use Rattle.graph_build.specs.Literals.{node_literal, HasLiterals};
 ghost use Rattle.graph_build.specs.Orders.{IsBuilt, IsBuildOrder};
@@ -13,7 +13,7 @@ ghost use Rattle.graph_build.specs.Orders.{IsBuilt, IsBuildOrder};
 use crate::built::Built;
 use crate::equations::equation_literal;
 use crate::literals::{node_literal, zero};
-use crate::ordering::build_order;
+use crate::orders::build_order;
 use aig_core::Graph;
 use pulse_ids::{Lit, NetId, NoMemory, NodeLit, Row};
 use source_machine::{Latch, Machine, RawMachine};
@@ -63,7 +63,7 @@ fn build_equations(
     graph: &mut Graph,
     literals: &mut Row<NetId, NodeLit>,
     raw: &RawMachine,
-    order: &[usize],
+    order: &[u32],
 ) -> Result<(), NoMemory>
     requires fits { Fits (machine_of raw.now) }
     requires order { IsBuildOrder (machine_of raw.now) order.now }
@@ -73,7 +73,7 @@ fn build_equations(
     ensures small { OnOk result (length graph.new.pairs ≤ size_of (machine_of raw.now)) }
 {
     for number in order {
-        let equation = &raw.equations[*number];
+        let equation = &raw.equations[*number as usize];
         let literal = equation_literal(graph, literals, equation)?;
         literals.set(equation.net, literal);
     }
@@ -146,13 +146,13 @@ fn graph_of(alloc: Global, raw: &RawMachine) -> Result<Built, NoMemory>
 }
 
 /// The graph of a machine. Its equations are built one after the other, each time the one of the
-/// lowest net among those whose row nets are all built. A row is folded from the left, beginning
-/// with 1, and the rows are joined from the left, beginning with 0; the result is complemented where
-/// `on` is false. The graph has at most as many conjunctions as the machine has rows and literals in
-/// them. It takes memory linear in the machine, and time that is linear but for the choice of the
+/// lowest net among those whose cube nets are all built. A cube is folded from the left, beginning
+/// with 1, and the cubes are joined from the left, beginning with 0; the result is complemented where
+/// `on` is false. The graph has at most as many conjunctions as the machine has cubes and literals
+/// in them. It takes memory linear in the machine, and time that is linear but for the choice of the
 /// lowest net, which takes logarithmic time for each equation.
 pub fn build(alloc: Global, machine: &Machine) -> Result<Built, NoMemory>
-    ensures { IfOk result (λ built. IsGraphOf (machine_of machine.now) built) }
+    ensures { IfOk result (λ built. IsGraphOf machine.now built) }
 {
     graph_of(alloc, machine.raw())
 }

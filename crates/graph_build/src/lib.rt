@@ -6,13 +6,8 @@ mod built;
 mod equations;
 mod laws;
 mod literals;
-#[cfg(test)]
-mod order_tests;
-mod ordering;
-mod queues;
-#[cfg(test)]
-mod tests;
+mod orders;
 
 pub use building::build;
 pub use built::Built;
-pub use laws::examples;
+pub use laws::{examples, graphs_run_alike};

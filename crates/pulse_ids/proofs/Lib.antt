@@ -1,1 +1,4 @@
+pub mod CallerLemmas
+pub mod CallerLemmasOnCounts
 pub mod Copies
+pub mod PackedBits

@@ -4,6 +4,7 @@
 //! of one kind cannot be read with a number of another.
 #![tactic(auto)]
 
+mod bits;
 mod ids;
 mod literals;
 mod memory;
@@ -11,6 +12,7 @@ mod names;
 mod quantities;
 mod rows;
 
+pub use bits::Bits;
 pub use ids::{
     CellId, CellKind, Id, Ident, NetId, NetKind, NodeId, NodeKind, RailId, RailKind, WireId,
     WireKind,

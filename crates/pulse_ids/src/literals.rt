@@ -1,7 +1,7 @@
 //! Literals over nets and over graph nodes, and the signs of rails.
 
 ghost use Rattle.std.specs.Prelude.{◌≡◌, ◌<◌, ◌^◌, false, not};
-ghost use Rattle.pulse_ids.specs.Literals.{flipped, code_of};
+ghost use Rattle.pulse_ids.specs.Literals.{flipped, code_of, rail_sign};
 
 use crate::ids::{Id, NetId, NetKind, NodeId, NodeKind};
 use std::marker::PhantomData;
@@ -64,6 +64,14 @@ impl<K: Copy> Literal<K> {
             id: self.id,
             negated: !self.negated,
         }
+    }
+
+    /// The sign of the rail, of what the literal's number names, that is the literal's rail of this sign: the other
+    /// sign where the literal is negated.
+    pub fn rail_sign(self, sign: Sign) -> Sign
+        ensures { result ≡ rail_sign self sign }
+    {
+        if self.negated { sign.flip() } else { sign }
     }
 
     /// The code of AIGER: twice the number, plus 1 where negated. The number is below 2^31.
@@ -140,34 +148,5 @@ impl<K: Copy> Default for Literal<K> {
             },
             negated: false,
         }
-    }
-}
-
-#[cfg(test)]
-mod tests {
-    use super::*;
-    use crate::ids::Ident;
-    use std::test::Fail;
-
-    #[test]
-    fn literals_have_the_codes_of_aiger(rt: HostRuntime) -> Result<(), Fail> {
-        let seven = Id::new(7);
-        let cases = [
-            (Lit::FALSE, 0),
-            (Lit::TRUE, 1),
-            (Lit::FALSE.flip(), 1),
-            (Lit::new(seven, false), 14),
-            (Lit::new(seven, true), 15),
-            (Lit::new(seven, true).flip(), 14),
-        ];
-        for (literal, code) in cases {
-            assert_eq!(rt; literal.code(), code);
-        }
-        assert_eq!(rt; NodeLit::FALSE.code(), 0);
-        assert_eq!(rt; NodeLit::TRUE.code(), 1);
-        assert_eq!(rt; Lit::default(), Lit::FALSE);
-        assert_eq!(rt; NodeLit::default(), NodeLit::FALSE);
-        assert_eq!(rt; Sign::Pos.flip(), Sign::Neg);
-        Ok(())
     }
 }

@@ -20,7 +20,7 @@ pub enum Quantity {
     Latches,
     /// Nets, or the greatest variable that an AIGER header announces.
     Nets,
-    /// Rows and row literals over all equations of a source.
+    /// Cubes and the literals in them, over all equations of a source.
     Size,
     /// Bytes of one name.
     NameBytes,

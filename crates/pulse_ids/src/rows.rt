@@ -116,43 +116,8 @@ fn repeated<T: Copy>(alloc: Global, item: T, n: u32) -> Result<Vec<T>, NoMemory>
     ensures { IfOk result (λ list. list.items ≡ replicate n item) }
 {
     let mut list = Vec::with_capacity(alloc, n as usize)?;
-    'fill: for _made in 0..n {
+    for _made in 0..n {
         list.push(item)?;
     }
     Ok(list)
-}
-
-#[cfg(test)]
-mod tests {
-    use super::*;
-    use crate::ids::{CellId, NetId, NodeId, RailId, WireId};
-    use crate::names::Name;
-    use std::test::Fail;
-
-    fn first_two<I: Ident>(alloc: Global) -> Result<Row<I, u8>, NoMemory> {
-        let mut row = Row::new(alloc);
-        row.push(7)?;
-        row.push(9)?;
-        Ok(row)
-    }
-
-    #[test]
-    fn rows_hold_what_was_pushed(rt: HostRuntime) -> Result<(), Fail> {
-        let row = first_two::<WireId>(rt.alloc())?;
-        assert_eq!(rt; row.len(), 2);
-        assert_eq!(rt; *row.get(WireId::new(1)), 9);
-        assert_eq!(rt; first_two::<CellId>(rt.alloc())?.items(), [7, 9].as_slice());
-        assert_eq!(rt; first_two::<NetId>(rt.alloc())?.len(), 2);
-        assert_eq!(rt; first_two::<NodeId>(rt.alloc())?.len(), 2);
-        assert!(rt; !first_two::<RailId>(rt.alloc())?.is_empty());
-        let mut row = Row::<WireId, u8>::filled(rt.alloc(), 5, 3)?;
-        row.set(WireId::new(1), 6);
-        assert_eq!(rt; row.items(), [5, 6, 5].as_slice());
-        assert_eq!(rt; row.try_get(1), Some(&6));
-        assert_eq!(rt; row.try_get(3), None);
-        let name = Name::new(rt.alloc(), b"n<7>")?;
-        assert_eq!(rt; name.bytes(), b"n<7>".as_slice());
-        assert!(rt; name == Name::new(rt.alloc(), b"n<7>")?);
-        Ok(())
-    }
 }

@@ -1,6 +1,12 @@
-pub mod EveryOrder
+pub mod RailDelivery
 pub mod DuePulses
+pub mod EveryOrder
+pub mod WithoutCells
+pub mod LaterMoments
+pub mod PulsesPerCycle
 pub mod Examples
-pub mod PendingRows
+pub mod NeededRules
+pub mod PendingQueues
 pub mod Reacting
 pub mod Worlds
+pub mod WorldMoments

@@ -1,19 +1,15 @@
 -- What the engine keeps and emits, in the words of the world of pulses.
-use Rattle.std.specs.Prelude.{ℕ, Bool, Option, Some, None, List, [], ◌∷◌}
+use Rattle.std.specs.Prelude.{ℕ, Option, Some, None, List, [], ◌∷◌}
 use Rattle.cell_netlist.specs.declared.lines.Cell.{Cell}
 use Rattle.cell_netlist.specs.declared.lines.Reader.{Reader}
 use Rattle.cell_netlist.specs.declared.lines.Reader.TheVariants as readers
 use Rattle.cell_netlist.specs.OneReader.{reaction_at}
-use Rattle.cell_netlist.specs.World.{Content, Reaction}
-use Rattle.pulse_world.specs.declared.reacting.Kept.{Kept}
+use Rattle.cell_netlist.specs.declared.kinds.CellState.{CellState}
+use Rattle.cell_netlist.specs.World.{Reaction}
 use Rattle.pulse_world.specs.declared.reacting.Emitted.{Emitted}
 use Rattle.pulse_world.specs.declared.reacting.Emitted.TheVariants.{Nothing, One, Two}
 use Rattle.pulse_world.specs.declared.reacting.Target.{Target}
 use Rattle.pulse_world.specs.declared.reacting.Target.TheVariants as targets
-
--- the content of a cell
-abbrev pub content_of : Kept → Content
-content_of kept = record { held = kept.held; bit = kept.bit }
 
 -- the emitted wires in order
 abbrev pub wires_of : Emitted → List ℕ
@@ -22,8 +18,8 @@ wires_of (One wire) = wire.number ∷ []
 wires_of (Two first later) = first.number ∷ later.number ∷ []
 
 -- what a cell keeps and emits
-abbrev pub reaction_of : Kept × Emitted → Reaction
-reaction_of pair = record { content = content_of pair.0; emitted = wires_of pair.1 }
+abbrev pub reaction_of : CellState × Emitted → Reaction
+reaction_of pair = record { cell_state = pair.0; emitted = wires_of pair.1 }
 
 -- the cell or the output rail of a reader
 abbrev pub target_at : Reader → Target
@@ -39,13 +35,9 @@ emitted_by None = []
 emitted_by (Some reacted) = reacted.emitted
 
 -- what a pulse at a reader makes its cell emit, in order, and nothing at an output rail
-abbrev pub emitted_at : List Cell → List Content → Reader → List ℕ
-emitted_at cells contents (readers.A id) = emitted_by (reaction_at cells contents id.number (readers.A id))
-emitted_at cells contents (readers.B id) = emitted_by (reaction_at cells contents id.number (readers.B id))
-emitted_at cells contents (readers.From id) = emitted_by (reaction_at cells contents id.number (readers.From id))
-emitted_at cells contents (readers.Feed id) = emitted_by (reaction_at cells contents id.number (readers.Feed id))
-emitted_at cells contents (readers.Output id) = []
-
--- the bit of a content
-abbrev pub bit_of : Content → Bool
-bit_of content = content.bit
+abbrev pub emitted_at : List Cell → List CellState → Reader → List ℕ
+emitted_at cells cell_states (readers.A id) = emitted_by (reaction_at cells cell_states id.number (readers.A id))
+emitted_at cells cell_states (readers.B id) = emitted_by (reaction_at cells cell_states id.number (readers.B id))
+emitted_at cells cell_states (readers.From id) = emitted_by (reaction_at cells cell_states id.number (readers.From id))
+emitted_at cells cell_states (readers.Feed id) = emitted_by (reaction_at cells cell_states id.number (readers.Feed id))
+emitted_at cells cell_states (readers.Output id) = []

@@ -5,16 +5,16 @@
 #![tactic(auto)]
 
 mod examples;
+mod moments;
+mod opening;
 mod orders;
 mod pending;
-mod pulsing;
 mod reacting;
-#[cfg(test)]
-mod tests;
 mod worlds;
 
 pub use examples::examples_deliver;
+pub use moments::moments_of_worlds;
 pub use orders::{
-    equation_runs, every_order, every_order_without_cells, pulses_per_cycle, rails_to_bits,
+    every_order, every_order_without_cells, pulses_per_cycle, rails_to_bits, whole_runs,
 };
 pub use worlds::World;

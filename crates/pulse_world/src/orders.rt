@@ -1,30 +1,36 @@
 //! What holds under every order of deliveries. These functions do nothing: their clauses are the laws.
 
-ghost use Rattle.pulse_world.specs.EveryOrder.{RunExists, RunRails, RunsAgree, RailsToBits, OrderLaw, BitLaw, OrderLawWithoutCells, RunExistsWithoutCells, BitLawWithoutCells};
-ghost use Rattle.pulse_world.specs.DuePulses.{FollowLaw, OncePerCycle, LinkPerCycle, OutputsReadNoLink, GatesReadNoLink};
-
-/// The rail equations of a sound netlist have a run on any vectors, and only one, but for the bits of the
-/// links. In each cycle its bits meet the equations for the state that the cycle before left.
-pub fn equation_runs()
-    ensures exists { RunExists }
-    ensures rails { RunRails }
-    ensures agree { RunsAgree }
-{}
+ghost use Rattle.pulse_world.specs.EveryOrder.{RailsToBits, OrderLaw, BitLaw, FollowLaw};
+ghost use Rattle.pulse_world.specs.LaterMoments.{MomentsLeadOn, WholeRunExists, EveryRunGoesOn, NextPhaseOpens, WholeRunEnds};
+ghost use Rattle.pulse_world.specs.PulsesPerCycle.{OncePerCycle, LinkPerCycle, OutputsReadNoLink, GatesReadNoLink};
+ghost use Rattle.pulse_world.specs.WithoutCells.{OrderLawWithoutCells, RunExistsWithoutCells, BitLawWithoutCells};
 
 /// A sound netlist pulses as its rail equations say. Under every order no delivery is an upset, each phase
 /// settles after at most one pulse a wire, and then each output rail has pulsed in the phase of its bit. So the
 /// netlist delivers the bits that a run of the equations gives at its output rails.
 ///
-/// From each moment deliveries lead on to a settled one. A phase delivers exactly the wires that are due in it,
-/// and after relax the cells keep the next state.
+/// From each moment deliveries lead on to a settled one. A phase delivers exactly the wires of the netlist that are
+/// due in it, a wire has at most one pulse pending, and after relax the cells keep the next state.
 pub fn every_order()
     ensures delivers { OrderLaw }
     ensures bits { BitLaw }
     ensures follows { FollowLaw }
 {}
 
-/// In each cycle a wire is due one pulse, unless it is the link of a front and its back, which is due one, two
-/// or none. No output rail, LA, FA or splitter reads a link.
+/// A sound netlist has a whole run on any vectors, which takes each of them through both phases, and from every
+/// moment each of its runs goes on to a whole one. Where a phase is settled the next one can be opened while a
+/// vector's phase is left; after a whole run nothing follows.
+pub fn whole_runs()
+    ensures lead_on { MomentsLeadOn }
+    ensures exists { WholeRunExists }
+    ensures goes_on { EveryRunGoesOn }
+    ensures opens { NextPhaseOpens }
+    ensures ends { WholeRunEnds }
+{}
+
+/// In each cycle of each run of a sound netlist a wire is delivered once, in excite or in relax, unless it is the
+/// link of a front and its back, which is delivered once, twice or never. No output rail, LA, FA or splitter reads a
+/// link.
 pub fn pulses_per_cycle()
     ensures plain { OncePerCycle }
     ensures link { LinkPerCycle }

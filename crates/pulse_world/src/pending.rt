@@ -1,46 +1,46 @@
-//! The row of the pending pulses.
+//! The queue of the pending pulses.
 
 ghost use Rattle.std.specs.Prelude.{◌≡◌, ◌<◌, ◌≤◌, ◌++◌, ◌∷◌, [], None, Some, length, IfOk, IfSome, slice_get};
 ghost use Rattle.std.specs.List.{swap_remove};
-ghost use Rattle.cell_netlist.specs.Lists.{occurrences};
-ghost use Rattle.pulse_world.specs.PendingRows.{row_of};
+ghost use Rattle.pulse_ids.specs.Lists.{occurrences};
+ghost use Rattle.pulse_world.specs.PendingQueues.{queue_of};
 
 use pulse_ids::{Ident, NoMemory, Row, WireId};
 use std::alloc::Global;
 use std::marker::Model;
 
-/// Wires in a row, each at most once, all below a bound. The place of a wire is found in constant time, and after
-/// the row is made it takes no memory.
+/// Wires in a queue, each at most once, all below a bound. The place of a wire is found in constant time, and after
+/// the queue is made it takes no memory.
 #[derive(Debug, Drop)]
-pub(crate) struct PendingRow {
+pub(crate) struct PendingQueue {
     wires: Vec<WireId>,
-    // Where a wire of the row stands. Of other wires it says nothing.
+    // Where a wire of the queue stands. Of other wires it says nothing.
     places: Row<WireId, u32>,
 }
 
-impl Model for PendingRow {
+impl Model for PendingQueue {
     ghost use Rattle.std.specs.Prelude.{length};
     ghost use Rattle.std.specs.Vec.{vec_capacity};
-    ghost use Rattle.pulse_world.specs.PendingRows.{RowLines, row_of, IsRowOf};
+    ghost use Rattle.pulse_world.specs.PendingQueues.{PlainQueue, queue_of, IsQueueOf};
 
-    ghost Value = { RowLines };
+    ghost Value = { PlainQueue };
 
-    ghost view = { λ row. row_of row.wires.items (length row.places) };
+    ghost view = { λ queue. queue_of queue.wires.items (length queue.places) };
 
-    ghost invariant = { λ row. IsRowOf (row_of row.wires.items (length row.places)) row.places (vec_capacity row.wires) };
+    ghost invariant = { λ queue. IsQueueOf (queue_of queue.wires.items (length queue.places)) queue.places (vec_capacity queue.wires) };
 }
 
-impl PendingRow {
-    /// An empty row for the wires below the bound.
-    pub(crate) fn new(alloc: Global, bound: u32) -> Result<PendingRow, NoMemory>
-        ensures { IfOk result (λ row. row ≡ row_of [] bound) }
+impl PendingQueue {
+    /// An empty queue for the wires below the bound.
+    pub(crate) fn new(alloc: Global, bound: u32) -> Result<PendingQueue, NoMemory>
+        ensures { IfOk result (λ queue. queue ≡ queue_of [] bound) }
     {
         let places = Row::filled(alloc, 0, bound)?;
         let wires = Vec::with_capacity(alloc, bound as usize)?;
-        Ok(PendingRow { wires, places })
+        Ok(PendingQueue { wires, places })
     }
 
-    /// How many wires stand in the row, always at most the bound.
+    /// How many wires stand in the queue, always at most the bound.
     pub(crate) fn len(&self) -> u32
         ensures count { result ≡ length self.now.wires }
         ensures most { length self.now.wires ≤ self.now.bound }
@@ -56,7 +56,7 @@ impl PendingRow {
         self.wires[place as usize]
     }
 
-    /// The place of a wire, which may be any. None exactly where it does not stand in the row.
+    /// The place of a wire, which may be any. None exactly where it does not stand in the queue.
     pub(crate) fn place_of(&self, wire: WireId) -> Option<u32>
         ensures found { IfSome result (λ place. slice_get self.now.wires place ≡ Some wire.number) }
         ensures none { result ≡ None → occurrences wire.number self.now.wires ≡ 0 }
@@ -68,7 +68,7 @@ impl PendingRow {
         }
     }
 
-    /// Takes the wire at a place out; the last one of the row moves into that place.
+    /// Takes the wire at a place out; the last one of the queue moves into that place.
     pub(crate) fn take_at(&mut self, place: u32) -> WireId
         requires { place < length self.old.wires }
         ensures wire { slice_get self.old.wires place ≡ Some result.number }
@@ -79,7 +79,7 @@ impl PendingRow {
         self.wires.swap_remove(place as usize)
     }
 
-    /// Puts a wire at the end. It is below the bound and does not stand in the row.
+    /// Puts a wire at the end. It is below the bound and does not stand in the queue.
     pub(crate) fn append(&mut self, wire: WireId)
         requires below { wire.number < self.old.bound }
         requires apart { occurrences wire.number self.old.wires ≡ 0 }

@@ -1,17 +1,20 @@
 //! The pulse engine. Its clauses rest on the law `readers_of_wires`, whose calls do nothing.
 
-ghost use Rattle.std.specs.Prelude.{◌≡◌, ◌<◌, ◌↔◌, [], ℕ, option_map, if◌then◌else◌, true, false, map, length, IfOk, None, Some, slice_get};
+ghost use Rattle.std.specs.Prelude.{◌≡◌, ◌<◌, ◌≤◌, ◌↔◌, [], ℕ, if◌then◌else◌, true, false, map, length, IfOk, None, Some, slice_get};
+ghost use Rattle.cell_netlist.specs.declared.kinds.CellState.{CellState};
 ghost use Rattle.cell_netlist.specs.declared.kinds.Held.TheVariants.{Rest};
 ghost use Rattle.cell_netlist.specs.declared.kinds.Phase.TheVariants.{Excite, Relax};
-ghost use Rattle.cell_netlist.specs.Lists.{IsIn, occurrences};
-ghost use Rattle.cell_netlist.specs.World.{Content, preloaded, start, IsAtRest};
-ghost use Rattle.pulse_world.specs.Reacting.{content_of, bit_of};
+ghost use Rattle.pulse_ids.specs.declared.quantities.Quantity.TheVariants.{Wires};
+ghost use Rattle.pulse_ids.specs.Lists.{IsIn, occurrences};
+ghost use Rattle.pulse_ids.specs.Quantities.{greatest_of};
+ghost use Rattle.cell_netlist.specs.Netlists.{number_of_wires};
+ghost use Rattle.cell_netlist.specs.World.{preloaded, start, IsAtRest};
 ghost use Rattle.pulse_world.specs.Worlds.{state_of, phase_of, opened_world, DeliversAt, IsWorld};
 
-use crate::pending::PendingRow;
-use crate::pulsing::{append_emitted, open_phase};
-use crate::reacting::{Kept, Target, react_at, target_of};
-use cell_netlist::{Cell, Held, Phase, SoundNet, readers_of_wires};
+use crate::opening::{append_emitted, open_phase};
+use crate::pending::PendingQueue;
+use crate::reacting::{Target, react_at, target_of};
+use cell_netlist::{Cell, CellState, Held, Phase, SoundNet, readers_of_wires};
 use pulse_ids::{CellId, Ident, NoMemory, RailId, Row, WireId};
 use std::alloc::Global;
 use std::marker::Model;
@@ -23,21 +26,21 @@ pub struct World<'a> {
     net: &'a SoundNet,
     opened: Option<Phase>,
     vector: Vec<bool>,
-    kept: Row<CellId, Kept>,
-    pending: PendingRow,
+    cell_states: Row<CellId, CellState>,
+    pending: PendingQueue,
     counted: Row<RailId, u32>,
 }
 
 impl<'a> Model for World<'a> {
     ghost use Rattle.std.specs.Prelude.{◌≡◌};
-    ghost use Rattle.cell_netlist.specs.NetlistLines.{number_of_wires};
-    ghost use Rattle.pulse_world.specs.Worlds.{WorldLines, world_of, IsWorld};
+    ghost use Rattle.cell_netlist.specs.Netlists.{number_of_wires};
+    ghost use Rattle.pulse_world.specs.Worlds.{PlainWorld, world_of, IsWorld};
 
-    ghost Value = { WorldLines };
+    ghost Value = { PlainWorld };
 
-    ghost view = { λ world. world_of world.net.now world.opened world.vector.items world.kept world.pending.wires world.counted };
+    ghost view = { λ world. world_of world.net.now world.opened world.vector.items world.cell_states world.pending.wires world.counted };
 
-    ghost invariant = { λ world. IsWorld (world_of world.net.now world.opened world.vector.items world.kept world.pending.wires world.counted)
+    ghost invariant = { λ world. IsWorld (world_of world.net.now world.opened world.vector.items world.cell_states world.pending.wires world.counted)
         × (world.pending.bound ≡ number_of_wires world.net.now) };
 }
 
@@ -47,38 +50,43 @@ impl<'a> World<'a> {
     pub fn new(alloc: Global, net: &'a SoundNet) -> Result<World<'a>, NoMemory>
         ensures net { IfOk result (λ world. world.net ≡ net.now) }
         ensures start { IfOk result (λ world. state_of world ≡ start net.now) }
-        ensures settled { IfOk result (λ world. world.row ≡ []) }
+        ensures settled { IfOk result (λ world. world.queue ≡ []) }
         ensures opened { IfOk result (λ world. world.opened ≡ None) }
     {
         let lines = net.net();
         let vector = Vec::from_elem(alloc, false, lines.inputs() as usize)?;
-        let kept = preloads(alloc, lines.cells())?;
-        let pending = PendingRow::new(alloc, lines.wires())?;
+        let cell_states = preloads(alloc, lines.cells())?;
+        let pending = PendingQueue::new(alloc, lines.wires())?;
         let counted = Row::filled(alloc, 0, lines.output_rails().len())?;
         Ok(World {
             net,
             opened: None,
             vector,
-            kept,
+            cell_states,
             pending,
             counted,
         })
     }
 
-    /// The phase that was opened last, and relax before the first opening. The world is one that a run reaches.
+    /// The phase that was opened last, and relax before the first opening.
+    ///
+    /// Its clauses give all that is always true of a world: some run reaches it, and its pending queue has each wire
+    /// of the netlist at most once, and no other.
     pub fn phase(&self) -> Phase
         ensures opened { result ≡ phase_of self.now.opened }
         ensures world { IsWorld self.now }
+        ensures once { (wire : ℕ) → occurrences wire self.now.queue ≤ 1 }
+        ensures below { (wire : ℕ) → IsIn wire self.now.queue → wire < number_of_wires self.now.net }
     {
         self.opened.unwrap_or(Phase::Relax)
     }
 
     /// Opens excite of the next cycle with its vector, one bit an input port. The phase is relax, and nothing is
-    /// pending. The row is then the wires of the pulsed input rails in the order of their lines, and behind them
-    /// those on which DROCs emitted, in the order of the cells.
+    /// pending. The pending queue is then the wires of the pulsed input rails in the order of their lines, and behind
+    /// them those on which DROCs emitted, in the order of the cells.
     pub fn begin_excite(&mut self, inputs: &[bool])
         requires phase { phase_of self.old.opened ≡ Relax }
-        requires settled { self.old.row ≡ [] }
+        requires settled { self.old.queue ≡ [] }
         requires width { length inputs.now ≡ self.old.net.inputs }
         ensures { self.new ≡ opened_world Excite inputs.now self.old }
     {
@@ -89,53 +97,56 @@ impl<'a> World<'a> {
             Phase::Excite,
             inputs,
             self.net.net(),
-            &mut self.kept,
+            &mut self.cell_states,
             &mut self.pending,
             &mut self.counted,
         );
     }
 
-    /// Opens relax of the cycle, with the vector of its excite. The phase is excite, and nothing is pending. The row
-    /// is as after `begin_excite`.
+    /// Opens relax of the cycle, with the vector of its excite. The phase is excite, and nothing is pending. The
+    /// pending queue is as after `begin_excite`.
     pub fn begin_relax(&mut self)
         requires phase { phase_of self.old.opened ≡ Excite }
-        requires settled { self.old.row ≡ [] }
+        requires settled { self.old.queue ≡ [] }
         ensures { self.new ≡ opened_world Relax self.old.vector self.old }
     {
         readers_of_wires();
         self.opened = Some(Phase::Relax);
         open_phase(
             Phase::Relax,
-            self.vector.as_slice(),
+            relax_vector(&self.vector),
             self.net.net(),
-            &mut self.kept,
+            &mut self.cell_states,
             &mut self.pending,
             &mut self.counted,
         );
     }
 
-    /// How many pulses are pending.
+    /// How many pulses are pending, which is at most the number of wires.
     pub fn pending_len(&self) -> u32
-        ensures { result ≡ length self.now.row }
+        ensures count { result ≡ length self.now.queue }
+        ensures most { length self.now.queue ≤ number_of_wires self.now.net }
+        ensures limit { number_of_wires self.now.net ≤ greatest_of Wires }
     {
         self.pending.len()
     }
 
-    /// The wire of the pending pulse at a place of the row, which is below their number.
+    /// The wire of the pending pulse at a place of the queue, which is below their number. It is a wire of the netlist.
     pub fn pending_at(&self, place: u32) -> WireId
-        requires { place < length self.now.row }
-        ensures { slice_get self.now.row place ≡ Some result.number }
+        requires { place < length self.now.queue }
+        ensures wire { slice_get self.now.queue place ≡ Some result.number }
+        ensures below { result.number < number_of_wires self.now.net }
     {
         self.pending.at(place)
     }
 }
 
 impl<'a> World<'a> {
-    /// Delivers the pending pulse at a place of the row, which is below their number, and answers its wire. The last
-    /// wire of the row moves into its place, and the wires on which the reader emits come last. It takes constant
+    /// Delivers the pending pulse at a place of the queue, which is below their number, and answers its wire. The last
+    /// wire of the queue moves into its place, and the wires on which the reader emits come last. It takes constant
     /// time.
     pub fn deliver_at(&mut self, place: u32) -> WireId
-        requires { place < length self.old.row }
+        requires { place < length self.old.queue }
         ensures { DeliversAt self.old self.new place result.number }
     {
         readers_of_wires();
@@ -143,7 +154,7 @@ impl<'a> World<'a> {
         let reader = self.net.reader(wire);
         match target_of(reader) {
             Target::Cell(id) => {
-                let emitted = react_at(self.net.net().cells(), &mut self.kept, id, reader);
+                let emitted = react_at(self.net.net().cells(), &mut self.cell_states, id, reader);
                 append_emitted(emitted, &mut self.pending);
             }
             Target::Rail(id) => {
@@ -159,7 +170,7 @@ impl<'a> World<'a> {
     pub fn deliver(&mut self, wire: WireId) -> bool
         ensures delivered { result ≡ true → (place : ℕ) × DeliversAt self.old self.new place wire.number }
         ensures unchanged { result ≡ false → self.new ≡ self.old }
-        ensures nothing { result ≡ false → occurrences wire.number self.old.row ≡ 0 }
+        ensures nothing { result ≡ false → occurrences wire.number self.old.queue ≡ 0 }
         ensures net { self.new.net ≡ self.old.net }
         ensures opened { self.new.opened ≡ self.old.opened }
     {
@@ -180,57 +191,84 @@ impl<'a> World<'a> {
         ensures { slice_get self.now.counted rail.number ≡ Some (if result then 1 else 0) }
     {
         readers_of_wires();
-        *self.counted.get(rail) == 1
+        is_one(*self.counted.get(rail))
     }
 
     /// The bit of a DROC of the netlist.
     pub fn stored(&self, cell: CellId) -> bool
         requires { cell.number < length self.now.net.cells }
-        ensures { option_map bit_of (slice_get self.now.contents cell.number) ≡ Some result }
+        ensures { (cell_state : CellState) × (slice_get self.now.cell_states cell.number ≡ Some cell_state) × (result ≡ cell_state.bit) }
     {
         readers_of_wires();
-        self.kept.get(cell).bit
+        bit_of(*self.cell_states.get(cell))
     }
 
     /// Whether every LA and FA rests.
     pub fn at_rest(&self) -> bool
         ensures { (result ≡ true) ↔ IsAtRest (state_of self.now) }
     {
-        do_rest(&self.kept)
+        do_rest(&self.cell_states)
     }
 }
 
-// Whether all cells rest.
-fn do_rest(kept: &Row<CellId, Kept>) -> bool
-    ensures { (result ≡ true) ↔ ((content : Content) → IsIn content (map content_of kept.now) → content.held ≡ Rest) }
+// The vector of relax is the one of its cycle's excite.
+fn relax_vector(vector: &Vec<bool>) -> &[bool]
+    ensures { result.now ≡ vector.now.items }
 {
-    'cells: for number in 0..kept.len() {
-        if kept.get(CellId::new(number)).held != Held::Rest {
+    vector.as_slice()
+}
+
+// A count of pulses that is 0 or 1.
+fn is_one(count: u32) -> bool
+    requires { count ≤ 1 }
+    ensures { count ≡ (if result then 1 else 0) }
+{
+    count == 1
+}
+
+fn bit_of(cell_state: CellState) -> bool
+    ensures { result ≡ cell_state.bit }
+{
+    cell_state.bit
+}
+
+// Whether all cells rest.
+fn do_rest(cell_states: &Row<CellId, CellState>) -> bool
+    ensures { (result ≡ true) ↔ ((cell_state : CellState) → IsIn cell_state cell_states.now → cell_state.held ≡ Rest) }
+{
+    for number in 0..cell_states.len() {
+        if !rests(*cell_states.get(CellId::new(number))) {
             return false;
         }
     }
     true
 }
 
-// What each cell keeps at the start.
-fn preloads(alloc: Global, cells: &Row<CellId, Cell>) -> Result<Row<CellId, Kept>, NoMemory>
-    ensures { IfOk result (λ row. map content_of row ≡ map preloaded cells.now) }
+fn rests(cell_state: CellState) -> bool
+    ensures { (result ≡ true) ↔ (cell_state.held ≡ Rest) }
 {
-    let mut row = Row::new(alloc);
-    'cells: for number in 0..cells.len() {
-        let _ = row.push(preload(*cells.get(CellId::new(number))))?;
-    }
-    Ok(row)
+    cell_state.held == Held::Rest
 }
 
-fn preload(cell: Cell) -> Kept
-    ensures { content_of result ≡ preloaded cell }
+// What each cell keeps at the start.
+fn preloads(alloc: Global, cells: &Row<CellId, Cell>) -> Result<Row<CellId, CellState>, NoMemory>
+    ensures { IfOk result (λ cell_states. cell_states ≡ map preloaded cells.now) }
+{
+    let mut cell_states = Row::new(alloc);
+    for number in 0..cells.len() {
+        let _ = cell_states.push(preload(*cells.get(CellId::new(number))))?;
+    }
+    Ok(cell_states)
+}
+
+fn preload(cell: Cell) -> CellState
+    ensures { result ≡ preloaded cell }
 {
     let bit = match cell {
         Cell::Droc { preload, .. } => preload,
         _ => false,
     };
-    Kept {
+    CellState {
         held: Held::Rest,
         bit,
     }

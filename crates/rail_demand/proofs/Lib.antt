@@ -1,7 +1,7 @@
-pub mod Bits
-pub mod Ending
-pub mod Expanding
-pub mod Finding
-pub mod Least
-pub mod Nodes
-pub mod Shown
+-- Lemmas by subject.
+pub mod ClosedRails
+pub mod DemandBits
+pub mod ExpandedRails
+pub mod FoundRails
+pub mod LeastSet
+pub mod SmallDemands

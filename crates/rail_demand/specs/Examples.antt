@@ -15,7 +15,13 @@ adder_rails =
 -- three latches, which are nodes 1 to 3: the first holds 0 next, the second holds the first next, and the third holds the complement of the first next; the output is the complement of the second
 abbrev pub chain_built : PlainBuilt
 chain_built =
-    record { graph = record { inputs = 0; latches = 3; pairs = [] }; outputs = complement (positive 2) ∷ []; nexts = zero_literal ∷ positive 1 ∷ complement (positive 1) ∷ []; inits = false ∷ false ∷ false ∷ [] }
+    record {
+      graph = record { inputs = 0; latches = 3; pairs = [] };
+      outputs = complement (positive 2) ∷ [];
+      nexts =
+          zero_literal ∷ positive 1 ∷ complement (positive 1) ∷ [];
+      inits = false ∷ false ∷ false ∷ [];
+    }
 
 -- the negative rail of the second latch, and through it the positive rails of the first latch and of the constant; none of the third
 abbrev pub chain_rails : PlainDemand

@@ -8,9 +8,9 @@ mod demands;
 mod laws;
 mod rails;
 mod searches;
-#[cfg(test)]
-mod tests;
 
+pub use cell_netlist::Ask;
 pub use demands::Demand;
 pub use laws::{demands_are_closed, examples};
+pub use rails::{NodeRail, literal_rail};
 pub use searches::demand;

@@ -1,6 +1,6 @@
 //! The search for the needed rails, from the outputs on.
 
-ghost use Rattle.std.specs.Prelude.{◌≡◌, ◌*◌, ◌^◌, ◌<◌, ◌≤◌, [], ◌∷◌, map, length, slice_get, Some, IfOk};
+ghost use Rattle.std.specs.Prelude.{◌≡◌, ◌*◌, ◌<◌, ◌≤◌, [], ◌∷◌, map, length, slice_get, Some, IfOk};
 ghost use Rattle.cell_netlist.specs.declared.kinds.Ask.{Ask as Asks};
 ghost use Rattle.cell_netlist.specs.Asked.{signs_of};
 ghost use Rattle.aig_core.specs.Graphs.{count_of};
@@ -9,8 +9,8 @@ ghost use Rattle.rail_demand.specs.Rails.{literal_rail};
 ghost use Rattle.rail_demand.specs.Searching.{none_of, HasRoom, Finds, FindsAll, IsStage, Steps, AreNeeded, IsClosedAt, IsClosedBefore, HasOutputs};
 
 use crate::demands::Demand;
-use crate::rails::{Rail, literal_rail, next_rail};
-use aig_core::{Node, nodes_have_values};
+use crate::rails::{NodeRail, literal_rail, next_rail};
+use aig_core::{Node, nodes_have_places, nodes_have_values};
 use cell_netlist::Ask;
 use graph_build::Built;
 use pulse_ids::{NoMemory, NodeLit, Sign};
@@ -21,7 +21,7 @@ use std::marker::Model;
 #[derive(Drop)]
 struct Search {
     demand: Demand,
-    found: Vec<Rail>,
+    found: Vec<NodeRail>,
 }
 
 impl Model for Search {
@@ -35,14 +35,13 @@ impl Model for Search {
 
 impl Search {
     /// Nothing found among the rails of so many nodes, with room for all of them.
-    fn begin(alloc: Global, nodes: usize) -> Result<Search, NoMemory>
-        requires { nodes < 2 ^ 32 }
+    fn begin(alloc: Global, nodes: u32) -> Result<Search, NoMemory>
         ensures demand { IfOk result (λ search. search.demand ≡ none_of nodes) }
         ensures found { IfOk result (λ search. search.found ≡ []) }
         ensures room { IfOk result (λ search. 2 * nodes ≤ search.room) }
     {
         let demand = Demand::none(alloc, nodes)?;
-        let found = Vec::with_capacity(alloc, 2 * nodes)?;
+        let found = Vec::with_capacity(alloc, 2 * nodes as usize)?;
         Ok(Search { demand, found })
     }
 
@@ -54,7 +53,7 @@ impl Search {
     }
 
     /// The rail that was found at this place.
-    fn at(&self, place: usize) -> Rail
+    fn at(&self, place: usize) -> NodeRail
         requires { place < length self.now.found }
         ensures { slice_get self.now.found place ≡ Some result }
     {
@@ -62,7 +61,7 @@ impl Search {
     }
 
     /// Finds a rail. It takes no memory.
-    fn find(&mut self, rail: Rail)
+    fn find(&mut self, rail: NodeRail)
         requires room { HasRoom self.old }
         requires inside { rail.node.number < nodes_in self.old.demand }
         ensures finds { Finds rail self.old self.new }
@@ -116,7 +115,7 @@ impl Search {
     }
 
     /// Finds all that a rail needs at once.
-    fn expand(&mut self, built: &Built, rail: Rail)
+    fn expand(&mut self, built: &Built, rail: NodeRail)
         requires stage { IsStage built.now self.old }
         requires inside { rail.node.number < count_of built.now.graph }
         ensures steps { Steps built.now self.old self.new }
@@ -124,7 +123,8 @@ impl Search {
         ensures needed { (ask : Asks) → Needed built.now ask rail.node.number rail.sign
             → AreNeeded built.now ask self.old.found → AreNeeded built.now ask self.new.found }
     {
-        nodes_have_values();
+        nodes_have_places(); // a latch's node is that of one of the latches
+        nodes_have_values(); // and a conjunction's is that of one of the pairs
         match built.graph().node(rail.node) {
             Node::And(low, high) => self.find_both(low, high, rail.sign),
             Node::Latch(latch) => self.find(next_rail(built.next(latch))),
@@ -166,7 +166,7 @@ impl Search {
 pub fn demand(alloc: Global, built: &Built, ask: Ask) -> Result<Demand, NoMemory>
     ensures { IfOk result (λ demand. IsDemand built.now ask demand) }
 {
-    let mut search = Search::begin(alloc, built.graph().len() as usize)?;
+    let mut search = Search::begin(alloc, built.graph().len())?;
     search.find_outputs(built, ask);
     search.spread(built);
     Ok(search.into_demand())

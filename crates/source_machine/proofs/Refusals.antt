@@ -1,13 +1,16 @@
 -- A machine is well founded or refused for one reason, and what holds of all grounded nets.
 use Rattle.std.proofs.Common.{◌≡◌, ℕ, ◌≤◌, ◌<◌, ◌⊎◌, inl, inr, map, ap, subst, arith}
+use Rattle.std.proofs.lemmas.Bool.{cases_lt}
+use Rattle.pulse_ids.specs.Lists.{IsIn}
 use Rattle.source_machine.specs.Machines.{PlainEquation, PlainMachine}
-use Rattle.source_machine.specs.Members.{IsIn}
-use Rattle.source_machine.specs.Grounding.{Grounded, of_constant, of_input, of_latch, of_equation, row_nets, driven_twice, undriven, ungrounded, IsLowest, IsDrivenTwice, IsUndriven, IsUngrounded}
+use Rattle.source_machine.specs.Grounding.{Grounded, of_constant, of_input, of_latch, of_equation, cube_nets, driven_twice, undriven, ungrounded, IsLowest, IsDrivenTwice, IsUndriven, IsUngrounded}
 use Rattle.source_machine.specs.Laws.{FoundedIsNotRefused, RefusalsAreEqual}
-use Rattle.source_machine.proofs.Counting.{lower_or_not}
 
--- what holds of net 0, inputs, latch outputs, and of an equation's net where it holds of all its row nets, holds of each grounded net
-pub Grounded-induction : (machine : PlainMachine) (P : ℕ → Type 0) → P 0 → ((net : ℕ) → IsIn net machine.inputs → P net) → ((net : ℕ) → IsIn net (map (λ latch. latch.out) machine.latches) → P net) → ((equation : PlainEquation) → IsIn equation machine.equations → ((used : ℕ) → IsIn used (row_nets equation) → P used) → P equation.net) → (net : ℕ) → Grounded machine net → P net
+-- what holds of net 0, inputs, latch outputs, and of an equation's net where it holds of all its cube nets, holds of each grounded net
+pub Grounded-induction : (machine : PlainMachine) (P : ℕ → Type 0) → P 0 → ((net : ℕ) → IsIn net machine.inputs → P net)
+    → ((net : ℕ) → IsIn net (map (λ latch. latch.out) machine.latches) → P net)
+    → ((equation : PlainEquation) → IsIn equation machine.equations → ((used : ℕ) → IsIn used (cube_nets equation) → P used) → P equation.net)
+    → (net : ℕ) → Grounded machine net → P net
 Grounded-induction machine P zero_holds inputs_hold latches_hold equations_hold _ of_constant = zero_holds
 Grounded-induction machine P zero_holds inputs_hold latches_hold equations_hold _ (of_input net i) = inputs_hold net i
 Grounded-induction machine P zero_holds inputs_hold latches_hold equations_hold _ (of_latch net i) = latches_hold net i
@@ -23,7 +26,7 @@ founded_is_not_refused machine founded (ungrounded net) first =
     let u = first.2.0 in u.1 (founded.all_grounded net u.0)
 
 lowest_same : (P : ℕ → Type 0) (a b : ℕ) → IsLowest P a → IsLowest P b → a ≡ b
-lowest_same P a b p q = go (lower_or_not a b) (lower_or_not b a)
+lowest_same P a b p q = go (cases_lt a b) (cases_lt b a)
   where
     go : (a < b) ⊎ (b ≤ a) → (b < a) ⊎ (a ≤ b) → a ≡ b
     go (inl lt) other = absurd (q.1 a lt p.0)

@@ -1,8 +1,9 @@
 -- What numbers, names and sizes a machine has.
-use Rattle.std.specs.Prelude.{◌≡◌, ◌≢◌, ℕ, ◌+◌, ◌<◌, ◌≤◌, List, [], ◌∷◌, length, All, IfSome}
+use Rattle.std.specs.Prelude.{◌≡◌, ℕ, ◌+◌, ◌≤◌, List, [], ◌∷◌, length, All, IfSome}
 use Rattle.std.specs.declared.option.Option.{Option}
+use Rattle.pulse_ids.specs.Names.{IsPortName}
 use Rattle.pulse_ids.specs.Quantities.{greatest_of}
-use Rattle.pulse_ids.specs.declared.quantities.Quantity.TheVariants.{Inputs, Outputs, Latches, Nets, Size, NameBytes}
+use Rattle.pulse_ids.specs.declared.quantities.Quantity.TheVariants.{Inputs, Outputs, Latches, Nets, Size}
 use Rattle.source_machine.specs.Machines.{PlainLiteral, PlainLatch, PlainEquation, PlainMachine, literal_of, latch_of, equation_of}
 use Rattle.source_machine.specs.declared.machines.RawMachine.{RawMachine}
 
@@ -18,29 +19,25 @@ LiteralFits nets literal = literal.net ≤ nets
 abbrev pub LatchFits : ℕ → PlainLatch → Type 0
 LatchFits nets latch = IsNumbered nets latch.out × LiteralFits nets latch.next
 
--- the equation is of a numbered net, and each literal of its rows fits
+-- the equation is of a numbered net, and each literal of its cubes fits
 abbrev pub EquationFits : ℕ → PlainEquation → Type 0
-EquationFits nets equation = IsNumbered nets equation.net × All (All (LiteralFits nets)) equation.rows
-
--- at least one byte, at most the greatest number of them, and no LF
-abbrev pub IsPortName : List ℕ → Type 0
-IsPortName bytes = (0 < length bytes) × (length bytes ≤ greatest_of NameBytes) × All (λ byte. byte ≢ 10) bytes
+EquationFits nets equation = IsNumbered nets equation.net × All (All (LiteralFits nets)) equation.cubes
 
 -- one name or none for each port
 abbrev pub NamesFit : ℕ → List (Option (List ℕ)) → Type 0
 NamesFit ports names = (length names ≡ ports) × All (λ name. IfSome name IsPortName) names
 
--- the number of rows and of literals in them
-abbrev pub size_of_rows : List (List PlainLiteral) → ℕ
-size_of_rows [] = 0
-size_of_rows (row ∷ rows) = (1 + length row) + size_of_rows rows
+-- the number of cubes and of literals in them
+abbrev pub size_of_cubes : List (List PlainLiteral) → ℕ
+size_of_cubes [] = 0
+size_of_cubes (cube ∷ cubes) = (1 + length cube) + size_of_cubes cubes
 
--- the number of rows and row literals over all equations
+-- the number of cubes and cube literals over all equations
 abbrev pub size_of_equations : List PlainEquation → ℕ
 size_of_equations [] = 0
-size_of_equations (equation ∷ equations) = size_of_rows equation.rows + size_of_equations equations
+size_of_equations (equation ∷ equations) = size_of_cubes equation.cubes + size_of_equations equations
 
--- the number of rows and row literals of a machine
+-- the number of cubes and cube literals of a machine
 abbrev pub size_of : PlainMachine → ℕ
 size_of machine = size_of_equations machine.equations
 

@@ -1,29 +1,30 @@
 -- Which machines have a value for each net, and how others are refused.
 use Rattle.std.specs.Prelude.{◌≡◌, ◌≢◌, ℕ, ◌<◌, ◌≤◌, List, ◌++◌, map}
 use Rattle.std.specs.List.{flat_map}
+use Rattle.pulse_ids.specs.Lists.{IsIn, occurrences}
 use Rattle.source_machine.specs.Machines.{PlainEquation, PlainMachine}
-use Rattle.source_machine.specs.Members.{IsIn, times_in}
 use Rattle.source_machine.specs.Runs.{driven_nets}
 
--- the nets of the literals in an equation's rows
-abbrev pub row_nets : PlainEquation → List ℕ
-row_nets equation = flat_map (map (λ literal. literal.net)) equation.rows
+-- the nets of the literals in an equation's cubes
+abbrev pub cube_nets : PlainEquation → List ℕ
+cube_nets equation = flat_map (map (λ literal. literal.net)) equation.cubes
 
--- the nets of all row literals, next literals and output literals
+-- the nets of all cube literals, next literals and output literals
 abbrev pub used_nets : PlainMachine → List ℕ
 used_nets machine =
-    flat_map row_nets machine.equations ++ (map (λ latch. latch.next.net) machine.latches ++ map (λ literal. literal.net) machine.outputs)
+    flat_map cube_nets machine.equations ++ (map (λ latch. latch.next.net) machine.latches ++ map (λ literal. literal.net) machine.outputs)
 
--- the least set that holds net 0, each input, each latch output, and the net of each equation whose row nets are all in it
+-- the least set that holds net 0, each input, each latch output, and the net of each equation whose cube nets are all in it
 pub data Grounded (machine : PlainMachine) : ℕ → Type 0 where
   of_constant : Grounded machine 0
   of_input : (net : ℕ) → IsIn net machine.inputs → Grounded machine net
   of_latch : (net : ℕ) → IsIn net (map (λ latch. latch.out) machine.latches) → Grounded machine net
-  of_equation : (net : ℕ) → (equation : PlainEquation) → IsIn equation machine.equations → equation.net ≡ net → ((used : ℕ) → IsIn used (row_nets equation) → Grounded machine used) → Grounded machine net
+  of_equation : (net : ℕ) → (equation : PlainEquation) → IsIn equation machine.equations → equation.net ≡ net
+      → ((used : ℕ) → IsIn used (cube_nets equation) → Grounded machine used) → Grounded machine net
 
 -- the net is driven more than once
 abbrev pub IsDrivenTwice : PlainMachine → ℕ → Type 0
-IsDrivenTwice machine net = 2 ≤ times_in net (driven_nets machine)
+IsDrivenTwice machine net = 2 ≤ occurrences net (driven_nets machine)
 
 -- the net isn't net 0, is used, and is driven by nothing
 abbrev pub IsUndriven : PlainMachine → ℕ → Type 0

@@ -12,22 +12,26 @@ AreVectors machine vectors = All (λ vector. length vector ≡ length machine.in
 -- a well founded machine has a valuation that agrees with a bit for each latch and a bit for each input
 abbrev pub ValuationExists : Type 0
 ValuationExists =
-    (machine : PlainMachine) → Fits machine → IsWellFounded machine → (state vector : List Bool) → length state ≡ length machine.latches → length vector ≡ length machine.inputs → (valuation : List Bool) × Agrees machine state vector valuation
+    (machine : PlainMachine) → Fits machine → IsWellFounded machine → (state vector : List Bool) → length state ≡ length machine.latches
+    → length vector ≡ length machine.inputs → (valuation : List Bool) × Agrees machine state vector valuation
 
 -- two valuations of a well founded machine that agree with the same bits are the same
 abbrev pub ValuationsAreEqual : Type 0
 ValuationsAreEqual =
-    (machine : PlainMachine) → Fits machine → IsWellFounded machine → (state vector : List Bool) → (one other : List Bool) → Agrees machine state vector one → Agrees machine state vector other → one ≡ other
+    (machine : PlainMachine) → Fits machine → IsWellFounded machine → (state vector : List Bool) → (one other : List Bool) → Agrees machine state vector one
+    → Agrees machine state vector other → one ≡ other
 
 -- two runs of a well founded machine on the same vectors are the same
 abbrev pub RunsAreEqual : Type 0
 RunsAreEqual =
-    (machine : PlainMachine) → Fits machine → IsWellFounded machine → (vectors : List (List Bool)) → AreVectors machine vectors → (one other : List (List Bool)) → IsRun machine vectors one → IsRun machine vectors other → one ≡ other
+    (machine : PlainMachine) → Fits machine → IsWellFounded machine → (vectors : List (List Bool)) → AreVectors machine vectors → (one other : List (List Bool))
+    → IsRun machine vectors one → IsRun machine vectors other → one ≡ other
 
 -- a well founded machine has a run on any vectors
 abbrev pub RunExists : Type 0
 RunExists =
-    (machine : PlainMachine) → Fits machine → IsWellFounded machine → (vectors : List (List Bool)) → AreVectors machine vectors → (valuations : List (List Bool)) × IsRun machine vectors valuations
+    (machine : PlainMachine) → Fits machine → IsWellFounded machine → (vectors : List (List Bool)) → AreVectors machine vectors
+    → (valuations : List (List Bool)) × IsRun machine vectors valuations
 
 -- a well founded machine isn't refused
 abbrev pub FoundedIsNotRefused : Type 0

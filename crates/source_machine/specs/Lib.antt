@@ -1,14 +1,13 @@
+-- The words of source machines.
 pub mod Machines
 pub mod Fitting
-pub mod Members
+pub mod Unset
+pub mod Additions
 pub mod Runs
 pub mod Grounding
-pub mod Orders
-pub mod Searching
-pub mod Frontiers
-pub mod Stages
-pub mod Steps
-pub mod Founding
+pub mod Dependencies
+pub mod Refusals
+pub mod LowestNets
 pub mod Evaluating
 pub mod Laws
 pub mod Examples

@@ -17,11 +17,11 @@ pub record PlainLatch : Type 0 where
   pub init : Bool
   pub next : PlainLiteral
 
--- a net as a sum of products: a row is a list of literals
+-- a net as a sum of products: a cube is a list of literals
 pub record PlainEquation : Type 0 where
   pub net : ℕ
   pub on : Bool
-  pub rows : List (List PlainLiteral)
+  pub cubes : List (List PlainLiteral)
 
 -- a machine, whose nets are numbered from 1, and net 0 is the constant 0
 pub record PlainMachine : Type 0 where
@@ -44,7 +44,7 @@ latch_of latch = record { out = latch.out.number; init = latch.init; next = lite
 -- an equation as plain lists and numbers
 abbrev pub equation_of : Equation → PlainEquation
 equation_of equation =
-    record { net = equation.net.number; on = equation.on; rows = map (map literal_of) equation.rows.items }
+    record { net = equation.net.number; on = equation.on; cubes = map (map literal_of) equation.rows.items }
 
 -- a machine as plain lists and numbers
 abbrev pub machine_of : RawMachine → PlainMachine

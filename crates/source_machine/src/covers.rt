@@ -1,4 +1,4 @@
-//! One row of a sum of products.
+//! A cube: one row of a sum of products.
 
 ghost use Rattle.std.specs.Prelude.{◌≡◌, ◌↔◌, ◌<◌, ◌≤◌, ◌-◌, ◌^◌, ◌++◌, ◌∷◌, [], List, Some, IsTrue, IsOk, OnOk, OnErr, length, slice_get};
 ghost use Rattle.pulse_ids.specs.Ids.{Lit};
@@ -8,7 +8,7 @@ use smallvec::SmallVec;
 use std::alloc::Global;
 use std::marker::Model;
 
-/// A list of literals: one row of a BLIF cover, or the two operands of an AIGER conjunction.
+/// A cube, as a list of literals: one row of a BLIF cover, or the two operands of an AIGER conjunction.
 /// Up to four literals are kept in the cover itself.
 #[derive(Debug, Drop)]
 pub struct Cover {
@@ -24,7 +24,7 @@ impl Model for Cover {
 }
 
 impl Cover {
-    /// A row without literals. It takes no memory.
+    /// A cube without literals. It takes no memory.
     pub fn new(alloc: Global) -> Cover
         ensures { result ≡ [] }
     {
@@ -33,14 +33,14 @@ impl Cover {
         }
     }
 
-    /// How many literals the row has, always below 2^32.
+    /// How many literals the cube has, always below 2^32.
     pub fn len(&self) -> u32
         ensures { result ≡ length self.now }
     {
         self.literals.len() as u32
     }
 
-    /// Whether the row has no literal.
+    /// Whether the cube has no literal.
     pub fn is_empty(&self) -> bool
         ensures { IsTrue result ↔ (self.now ≡ []) }
     {
@@ -62,8 +62,8 @@ impl Cover {
         self.literals.as_slice()
     }
 
-    /// Adds a literal at the end. The row has fewer than 2^32 - 1 literals. Memory may be refused
-    /// only to a row of four or more literals, and then the row is unchanged.
+    /// Adds a literal at the end. The cube has fewer than 2^32 - 1 literals. Memory may be refused
+    /// only to a cube of four or more literals, and then the cube is unchanged.
     pub fn push(&mut self, lit: Lit) -> Result<(), NoMemory>
         requires { length self.old < 2 ^ 32 - 1 }
         ensures added { OnOk result (self.new ≡ self.old ++ lit ∷ []) }
@@ -71,30 +71,6 @@ impl Cover {
         ensures unchanged { OnErr result (self.new ≡ self.old) }
     {
         self.literals.push(lit)?;
-        Ok(())
-    }
-}
-
-#[cfg(test)]
-mod tests {
-    use super::*;
-    use pulse_ids::{Ident, NetId};
-    use std::test::Fail;
-
-    #[test]
-    fn a_cover_grows_past_four_literals(rt: HostRuntime) -> Result<(), Fail> {
-        let mut cover = Cover::new(rt.alloc());
-        assert!(rt; cover.is_empty());
-        cover.push(Lit::new(NetId::new(7), false))?;
-        cover.push(Lit::new(NetId::new(3), true))?;
-        cover.push(Lit::new(NetId::new(9), false))?;
-        cover.push(Lit::new(NetId::new(3), false))?;
-        cover.push(Lit::new(NetId::new(5), true))?;
-        assert_eq!(rt; cover.len(), 5);
-        assert_eq!(rt; cover.lit(0).net().number(), 7);
-        assert_eq!(rt; cover.lit(4).net().number(), 5);
-        assert!(rt; cover.lit(1).negated());
-        assert_eq!(rt; cover.literals().len(), 5);
         Ok(())
     }
 }

@@ -2,13 +2,12 @@
 
 ghost use Rattle.std.specs.Prelude.{◌≡◌, ◌↔◌, ◌^◌, ◌-◌, min, length, All, IfSome, IsTrue};
 ghost use Rattle.source_machine.specs.Machines.{literal_of, latch_of, equation_of, machine_of};
-ghost use Rattle.source_machine.specs.Fitting.{IsNumbered, LiteralFits, LatchFits, EquationFits, IsPortName, NamesFit, RawNetsFit, IsWithinLimits, Fits, size_of, size_of_rows};
+ghost use Rattle.pulse_ids.specs.Names.{IsPortName};
+ghost use Rattle.source_machine.specs.Fitting.{IsNumbered, LiteralFits, LatchFits, EquationFits, NamesFit, RawNetsFit, IsWithinLimits, Fits, size_of, size_of_cubes};
 
 use crate::covers::Cover;
 use crate::machines::{Equation, Latch, RawMachine};
 use pulse_ids::{Ident, Lit, Name, NetId, Quantity};
-
-const LF: u8 = 10;
 
 fn is_numbered(nets: u32, net: NetId) -> bool
     ensures { IsTrue result ↔ IsNumbered nets net.number }
@@ -28,28 +27,19 @@ fn latch_fits(nets: u32, latch: Latch) -> bool
     is_numbered(nets, latch.out) && literal_fits(nets, latch.next)
 }
 
-fn row_fits(nets: u32, row: &Cover) -> bool
-    ensures { IsTrue result ↔ All (λ lit. LiteralFits nets (literal_of lit)) row.now }
+fn cube_fits(nets: u32, cube: &Cover) -> bool
+    ensures { IsTrue result ↔ All (λ lit. LiteralFits nets (literal_of lit)) cube.now }
 {
-    row.literals()
+    cube.literals()
         .iter()
         .all(|literal| literal_fits(nets, *literal))
-}
-
-fn is_port_name(name: &Name) -> bool
-    ensures { IsTrue result ↔ IsPortName name.now }
-{
-    let bytes = name.bytes();
-    !bytes.is_empty()
-        && bytes.len() as u64 <= Quantity::NameBytes.greatest()
-        && bytes.iter().all(|byte| *byte != LF)
 }
 
 fn is_name_or_none(name: &Option<Name>) -> bool
     ensures { IsTrue result ↔ IfSome name.now IsPortName }
 {
     match name {
-        Some(name) => is_port_name(name),
+        Some(name) => name.is_port_name(),
         None => true,
     }
 }
@@ -61,27 +51,27 @@ fn names_fit(ports: usize, names: &[Option<Name>]) -> bool
 }
 
 impl Equation {
-    fn rows_fit(&self, nets: u32) -> bool
+    fn cubes_fit(&self, nets: u32) -> bool
         ensures { IsTrue result
-            ↔ All (λ row. All (λ lit. LiteralFits nets (literal_of lit)) row) self.now.rows.items }
+            ↔ All (λ cube. All (λ lit. LiteralFits nets (literal_of lit)) cube) self.now.rows.items }
     {
-        self.rows.iter().all(|row| row_fits(nets, row))
+        self.rows.iter().all(|cube| cube_fits(nets, cube))
     }
 
     fn fits(&self, nets: u32) -> bool
         ensures { IsTrue result ↔ EquationFits nets (equation_of self.now) }
     {
-        is_numbered(nets, self.net) && self.rows_fit(nets)
+        is_numbered(nets, self.net) && self.cubes_fit(nets)
     }
 
-    /// The rows and row literals, or 2^64 - 1 where there are more.
-    #[tactic(auto, using(crate::proofs::Mapped::size_step, crate::proofs::Mapped::size_done))]
+    /// The cubes and cube literals, or 2^64 - 1 where there are more.
+    #[tactic(auto, using(crate::proofs::PlainLists::size_step, crate::proofs::PlainLists::size_done))]
     fn size(&self) -> u64
-        ensures { result ≡ min (size_of_rows (equation_of self.now).rows) (2 ^ 64 - 1) }
+        ensures { result ≡ min (size_of_cubes (equation_of self.now).cubes) (2 ^ 64 - 1) }
     {
         let mut size: u64 = 0;
-        for row in &self.rows {
-            size = size.saturating_add(1 + row.len() as u64);
+        for cube in &self.rows {
+            size = size.saturating_add(1 + cube.len() as u64);
         }
         size
     }
@@ -156,8 +146,8 @@ impl RawMachine {
     }
 
     /// The size of the source, or 2^64 - 1 where it is greater.
-    #[tactic(auto, using(crate::proofs::Mapped::equations_step, crate::proofs::Mapped::equations_done))]
-    fn size(&self) -> u64
+    #[tactic(auto, using(crate::proofs::PlainLists::equations_step, crate::proofs::PlainLists::equations_done))]
+    pub(crate) fn size(&self) -> u64
         ensures { result ≡ min (size_of (machine_of self.now)) (2 ^ 64 - 1) }
     {
         let mut size: u64 = 0;
@@ -165,69 +155,5 @@ impl RawMachine {
             size = size.saturating_add(equation.size());
         }
         size
-    }
-}
-
-#[cfg(test)]
-mod tests {
-    use super::*;
-    use pulse_ids::NoMemory;
-    use std::alloc::Global;
-    use std::test::Fail;
-
-    fn names(alloc: Global, bytes: &[u8]) -> Result<Vec<Option<Name>>, NoMemory> {
-        let mut names = Vec::new(alloc);
-        names.push(Some(Name::new(alloc, bytes)?))?;
-        Ok(names)
-    }
-
-    /// Net 3 is the and of input 1 and latch 2, whose next state is net 3.
-    fn gated(alloc: Global) -> Result<RawMachine, NoMemory> {
-        let three = Lit::new(NetId::new(3), false);
-        let mut row = Cover::new(alloc);
-        row.push(Lit::new(NetId::new(1), false))?;
-        row.push(Lit::new(NetId::new(2), true))?;
-        let mut rows = Vec::new(alloc);
-        rows.push(row)?;
-        let mut equations = Vec::new(alloc);
-        equations.push(Equation {
-            net: NetId::new(3),
-            on: true,
-            rows,
-        })?;
-        let latch = Latch {
-            out: NetId::new(2),
-            init: true,
-            next: three,
-        };
-        Ok(RawMachine {
-            nets: 3,
-            inputs: Vec::from_slice(alloc, &[NetId::new(1)])?,
-            latches: Vec::from_slice(alloc, &[latch])?,
-            equations,
-            outputs: Vec::from_slice(alloc, &[three])?,
-            input_names: names(alloc, b"enable")?,
-            output_names: names(alloc, b"out")?,
-        })
-    }
-
-    #[test]
-    fn small_machines_fit_or_not(rt: HostRuntime) -> Result<(), Fail> {
-        let mut machine = gated(rt.alloc())?;
-        assert!(rt; machine.fits());
-        machine.nets = 2;
-        assert!(rt; !machine.fits());
-        machine.nets = 524_288;
-        assert!(rt; machine.fits());
-        machine.nets = 524_289;
-        assert!(rt; !machine.fits());
-        machine.nets = 3;
-        machine.output_names = names(rt.alloc(), b"o\n")?;
-        assert!(rt; !machine.fits());
-        machine.output_names = names(rt.alloc(), &[b'n'; 1023])?;
-        assert!(rt; machine.fits());
-        machine.output_names = names(rt.alloc(), &[b'n'; 1024])?;
-        assert!(rt; !machine.fits());
-        Ok(())
     }
 }

@@ -1,6 +1,6 @@
 //! What is true of every machine. These functions do nothing: their clauses are the laws.
 
-ghost use Rattle.source_machine.specs.Examples.{TogglesThrice, AddsTwoBits, HalfAdderIsAccepted, NamesAreJudged, OffSetIsOr, NoRowIsOff, EmptyRowIsOn, RingIsRefused, ClashIsRefused, LooseIsRefused, SpareIsAccepted};
+ghost use Rattle.source_machine.specs.Examples.{TogglesThrice, AddsTwoBits, HalfAdderIsAccepted, NamesAreJudged, OffSetIsOr, NoCubeIsOff, EmptyCubeIsOn, RingIsRefused, ClashIsRefused, LooseIsRefused, SpareIsAccepted};
 ghost use Rattle.source_machine.specs.Laws.{ValuationExists, ValuationsAreEqual, RunsAreEqual, RunExists, FoundedIsNotRefused, RefusalsAreEqual, FitsIsJudged};
 
 /// A well founded machine computes one thing: in each cycle, and over any vectors.
@@ -25,8 +25,8 @@ pub fn examples()
     ensures half_adder_accepted { HalfAdderIsAccepted }
     ensures names { NamesAreJudged }
     ensures off_set { OffSetIsOr }
-    ensures no_row { NoRowIsOff }
-    ensures empty_row { EmptyRowIsOn }
+    ensures no_cube { NoCubeIsOff }
+    ensures empty_cube { EmptyCubeIsOn }
     ensures ring { RingIsRefused }
     ensures clash { ClashIsRefused }
     ensures loose { LooseIsRefused }

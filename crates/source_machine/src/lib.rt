@@ -3,28 +3,23 @@
 //! A machine is read from BLIF or from AIGER 1.9. Its equations are sums of products over nets.
 #![tactic(auto)]
 
+mod additions;
 mod covers;
-mod faults;
+mod dependencies;
 mod fitting;
-mod founding;
-mod frontiers;
+mod grounding;
 mod laws;
-mod listing;
+mod lowest_nets;
 mod machines;
-mod ordering;
+mod net_numbers;
 mod places;
-mod readers;
-#[cfg(test)]
-mod tests;
+mod unset;
 mod valuations;
-mod verdicts;
 
 pub use covers::Cover;
-pub use founding::{Machine, ground};
-pub use frontiers::Frontier;
+pub use grounding::{Grounding, Machine, ground};
 pub use laws::{examples, one_run, one_verdict};
 pub use machines::{Equation, Latch, RawMachine};
 pub use places::Place;
-pub use readers::{Readers, Tables};
+pub use unset::Unset;
 pub use valuations::{Values, step};
-pub use verdicts::Grounding;

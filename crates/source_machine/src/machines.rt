@@ -3,16 +3,16 @@
 use crate::covers::Cover;
 use pulse_ids::{Lit, Name, NetId};
 
-/// A net as a sum of products. Its value is `on` where some row has all its literals 1, and the
-/// opposite of `on` elsewhere. A row without literals has all of them 1. (A `.names` block of BLIF,
-/// whose rows all give one output bit, or a conjunction of AIGER.)
+/// A net as a sum of products. Its value is `on` where some cube has all its literals 1, and the
+/// opposite of `on` elsewhere. A cube without literals has all of them 1. (A `.names` block of BLIF,
+/// whose cubes all give one output bit, or a conjunction of AIGER.)
 #[derive(Debug, Drop)]
 pub struct Equation {
     /// The net that the equation drives.
     pub net: NetId,
-    /// The value where a row is met.
+    /// The value where a cube is met.
     pub on: bool,
-    /// The rows.
+    /// The cubes.
     pub rows: Vec<Cover>,
 }
 

@@ -2,16 +2,17 @@
 
 ghost use Rattle.std.specs.Prelude.{◌≡◌, ◌<◌, ◌+◌, ℕ, [], List, Bool, map, length, replicate, false, not, if◌then◌else◌, IfOk};
 ghost use Rattle.source_machine.specs.Machines.{literal_of, equation_of, machine_of};
-ghost use Rattle.source_machine.specs.Members.{IsIn};
+ghost use Rattle.pulse_ids.specs.Lists.{IsIn, bit_at};
 ghost use Rattle.std.specs.List.{list_any, list_all};
 ghost use Rattle.source_machine.specs.Fitting.{Fits};
-ghost use Rattle.source_machine.specs.Runs.{bit_in, literal_value, equation_value, Agrees, next_state};
-ghost use Rattle.source_machine.specs.Orders.{IsEvaluationOrder};
+ghost use Rattle.source_machine.specs.Runs.{literal_value, equation_value, Agrees, next_state};
+ghost use Rattle.source_machine.specs.Dependencies.{dependencies_of};
+ghost use Rattle.dependency_order.specs.Orders.{IsOrder};
 ghost use Rattle.source_machine.specs.Evaluating.{IsGiven, IsEvaluated};
 
 use crate::covers::Cover;
-use crate::faults::clear_bits;
-use crate::founding::Machine;
+use crate::grounding::Machine;
+use crate::lowest_nets::clear_bits;
 use crate::machines::{Equation, Latch, RawMachine};
 use pulse_ids::{Ident, Lit, NetId, NoMemory};
 use std::alloc::Global;
@@ -42,7 +43,7 @@ impl Values {
     /// The value of a literal, whose net is one of the machine's.
     pub fn value(&self, lit: Lit) -> bool
         requires { lit.id.number < length self.now }
-        ensures { result ≡ literal_value (bit_in self.now) (literal_of lit) }
+        ensures { result ≡ literal_value (bit_at self.now) (literal_of lit) }
     {
         literal_bit(&self.bits, lit)
     }
@@ -50,7 +51,7 @@ impl Values {
 
 /// The value of a literal. A net past the last one has 0.
 fn literal_bit(bits: &[bool], literal: Lit) -> bool
-    ensures { result ≡ literal_value (bit_in bits.now) (literal_of literal) }
+    ensures { result ≡ literal_value (bit_at bits.now) (literal_of literal) }
 {
     let bit = match bits.get(literal.net().number() as usize) {
         Some(bit) => *bit,
@@ -59,24 +60,24 @@ fn literal_bit(bits: &[bool], literal: Lit) -> bool
     if literal.negated() { !bit } else { bit }
 }
 
-/// Whether all literals of a row are 1.
-fn row_bit(bits: &[bool], row: &Cover) -> bool
-    ensures { result ≡ list_all (λ literal. literal_value (bit_in bits.now) (literal_of literal)) row.now }
+/// Whether all literals of a cube are 1.
+fn cube_bit(bits: &[bool], cube: &Cover) -> bool
+    ensures { result ≡ list_all (λ literal. literal_value (bit_at bits.now) (literal_of literal)) cube.now }
 {
-    row.literals()
+    cube.literals()
         .iter()
         .all(|literal| literal_bit(bits, *literal))
 }
 
-/// Whether some row has all its literals 1.
-fn is_met(bits: &[bool], rows: &[Cover]) -> bool
+/// Whether some cube has all its literals 1.
+fn is_met(bits: &[bool], cubes: &[Cover]) -> bool
     ensures { result
-        ≡ list_any (λ row. list_all (λ literal. literal_value (bit_in bits.now) (literal_of literal)) row) rows.now }
+        ≡ list_any (λ cube. list_all (λ literal. literal_value (bit_at bits.now) (literal_of literal)) cube) cubes.now }
 {
-    rows.iter().any(|row| row_bit(bits, row))
+    cubes.iter().any(|cube| cube_bit(bits, cube))
 }
 
-/// `on` where some row is met, and the opposite elsewhere.
+/// `on` where some cube is met, and the opposite elsewhere.
 fn value_if(met: bool, on: bool) -> bool
     ensures { result ≡ if met then on else not on }
 {
@@ -86,7 +87,7 @@ fn value_if(met: bool, on: bool) -> bool
 impl Equation {
     /// The value of the equation's net.
     fn bit(&self, bits: &[bool]) -> bool
-        ensures { result ≡ equation_value (bit_in bits.now) (equation_of self.now) }
+        ensures { result ≡ equation_value (bit_at bits.now) (equation_of self.now) }
     {
         value_if(is_met(bits, self.rows.as_slice()), self.on)
     }
@@ -118,7 +119,7 @@ fn give_state(bits: &mut [bool], latches: &[Latch], state: &[bool])
 fn advance(state: &mut [bool], latches: &[Latch], bits: &[bool])
     requires { length state.old ≡ length latches.now }
     ensures { state.new
-        ≡ map (λ latch. literal_value (bit_in bits.now) (literal_of latch.next)) latches.now }
+        ≡ map (λ latch. literal_value (bit_at bits.now) (literal_of latch.next)) latches.now }
 {
     for place in 0..latches.len() {
         state[place] = literal_bit(bits, latches[place].next);
@@ -139,18 +140,18 @@ impl RawMachine {
         give_state(bits, self.latches.as_slice(), state);
     }
 
-    /// Gives each equation's net its value, in an order in which the nets of its rows have theirs.
-    fn evaluate(&self, bits: &mut [bool], order: &[usize])
+    /// Gives each equation's net its value, in an order in which the nets of its cubes have theirs.
+    fn evaluate(&self, bits: &mut [bool], order: &[u32])
         requires fits { Fits (machine_of self.now) }
         requires room { length bits.old ≡ self.now.nets + 1 }
-        requires order { IsEvaluationOrder (machine_of self.now) order.now }
+        requires order { IsOrder (dependencies_of (machine_of self.now)) order.now }
         ensures width { length bits.new ≡ length bits.old }
         ensures evaluated { (state vector : List Bool)
             → IsEvaluated (machine_of self.now) state vector [] bits.old
             → IsEvaluated (machine_of self.now) state vector order.now bits.new }
     {
         for number in order {
-            let equation = &self.equations[*number];
+            let equation = &self.equations[*number as usize];
             let bit = equation.bit(bits);
             bits[equation.net.number() as usize] = bit;
         }
@@ -163,14 +164,14 @@ impl RawMachine {
 /// and what it held before doesn't matter. It takes no memory and can't be refused, and goes once
 /// over the nets and at most once over the literals.
 pub fn step(machine: &Machine, state: &mut [bool], inputs: &[bool], room: &mut Values)
-    requires state { length state.old ≡ length machine.now.latches.items }
-    requires inputs { length inputs.now ≡ length machine.now.inputs.items }
+    requires state { length state.old ≡ length machine.now.latches }
+    requires inputs { length inputs.now ≡ length machine.now.inputs }
     requires room { length room.old ≡ machine.now.nets + 1 }
-    ensures agrees { Agrees (machine_of machine.now) state.old inputs.now room.new }
+    ensures agrees { Agrees machine.now state.old inputs.now room.new }
     ensures only { (valuation : List Bool)
-        → Agrees (machine_of machine.now) state.old inputs.now valuation
+        → Agrees machine.now state.old inputs.now valuation
         → valuation ≡ room.new }
-    ensures next { state.new ≡ next_state (machine_of machine.now) room.new }
+    ensures next { state.new ≡ next_state machine.now room.new }
 {
     let raw = machine.raw();
     let bits = room.bits.as_mut_slice();

@@ -1,10 +1,12 @@
-pub mod CodeTables
-pub mod HeadersRead
-pub mod LinesRead
-pub mod PartsOfTexts
-pub mod TextsWritten
-pub mod WireFacts
+-- The lemmas of this crate. Those of wires go when real circuits come.
+pub mod BytesTaken
+pub mod WireCodes
+pub mod WireCompiled
+pub mod WireFields
+pub mod WireHeaders
+pub mod WireLines
 pub mod WireMachines
-pub mod WiresCompiled
-pub mod WiresMapped
-pub mod WiresSound
+pub mod WireRanks
+pub mod WireSlots
+pub mod WireSound
+pub mod WireTexts

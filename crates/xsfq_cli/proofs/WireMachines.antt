@@ -1,22 +1,22 @@
 -- That the machine of a wire text fits and is well founded, and what its outputs are.
-use Rattle.std.proofs.Common.{◌≡◌, ◌≢◌, ◌≤◌, ◌<◌, ◌+◌, ◌-◌, ◌*◌, ◌/◌, ◌%◌, ◌++◌, ◌∷◌, [], ◌==◌, ◌⊎◌, inl, inr, ℕ, zero, suc, Bool, true, false, not, List, length, map, slice_get, slice_index_or, Option, Some, None, IfSome, unwrap_or, option_map, ap, sym, ◌∙◌, subst, refl, arith, if◌then◌else◌, append-nil}
+use Rattle.std.proofs.Common.{◌≡◌, ◌≢◌, ◌≤◌, ◌<◌, ◌+◌, ◌-◌, ◌*◌, ◌/◌, ◌%◌, ◌++◌, ◌∷◌, [], ◌==◌, ◌⊎◌, inl, inr, ℕ, zero, suc, Bool, true, false, not, List, length, map, slice_get, slice_index_or, Option, Some, None, IfSome, option_map, ap, sym, ◌∙◌, subst, refl, arith, if◌then◌else◌, append-nil}
 use Rattle.std.specs.Prelude.{All}
-use Rattle.std.proofs.lemmas.List.{length-append, length-replicate, map-append}
+use Rattle.std.proofs.lemmas.List.{length-replicate, length-map, map-append}
 use Rattle.std.proofs.lemmas.List.Elements.{All-replicate}
-use Rattle.std.proofs.lemmas.Bool.{eqb-true, eqb-false, eq-eqb, ne_eqb}
+use Rattle.std.proofs.lemmas.Bool.{cases_eq, eqb-true, eqb-false, eq-eqb, ne_eqb}
 use Rattle.std.proofs.lemmas.Option.{none-some, same_Some, slice_get-map, get_or_from_slice_get}
 use Rattle.pulse_ids.specs.declared.literals.Sign.TheVariants.{Pos, Neg}
 use Rattle.source_machine.specs.Machines.{PlainLiteral, PlainMachine}
-use Rattle.source_machine.specs.Fitting.{IsNumbered, LiteralFits, IsPortName, NamesFit, Fits}
-use Rattle.source_machine.specs.Members.{IsIn, times_in}
-use Rattle.source_machine.specs.Runs.{bit_in, literal_value, Agrees, next_state, initial_state, IsRunFrom, IsRun, bit_of, driven_nets}
+use Rattle.source_machine.specs.Fitting.{IsNumbered, LiteralFits, NamesFit, Fits}
+use Rattle.pulse_ids.specs.Names.{IsPortName}
+use Rattle.pulse_ids.specs.Lists.{IsIn, bit_at, occurrences, upto}
+use Rattle.source_machine.specs.Runs.{literal_value, Agrees, next_state, initial_state, IsRunFrom, IsRun, bit_of, driven_nets}
 use Rattle.source_machine.specs.Grounding.{IsWellFounded}
-use Rattle.source_machine.proofs.Counting.{IsIn-append, IsIn-left, IsIn-right, IsIn-from_map, times_in-append, times_in-head, times_in-other, times_in-absent, same_or_not}
-use Rattle.cell_netlist.specs.Lists.{IsIn as IsItem, upto, bit_at}
+use Rattle.pulse_ids.proofs.CallerLemmas.{IsIn-append, IsIn-left, IsIn-right, IsIn-from_map, IsIn-place}
+use Rattle.pulse_ids.proofs.CallerLemmasOnCounts.{occurrences-append, occurrences-head, occurrences-other, occurrences-absent, length-upto, slice_get-upto}
 use Rattle.cell_netlist.specs.World.{has_sign}
 use Rattle.xsfq_cli.specs.WireTexts.{IsWireText, literal_of_code, unnamed, wire_machine}
 use Rattle.xsfq_cli.specs.WireNetlists.{slot_of, slots_of, sign_of_slot}
-use Rattle.xsfq_cli.proofs.WiresMapped.{length_mapped}
 
 -- the nets of so many inputs
 abbrev nets_of : ℕ → List ℕ
@@ -25,12 +25,8 @@ nets_of inputs = map (λ k. k + 1) (upto inputs)
 nets_more : (n : ℕ) → nets_of (suc n) ≡ nets_of n ++ (n + 1) ∷ []
 nets_more n = map-append (λ k. k + 1) (upto n) (n ∷ [])
 
-length-upto : (n : ℕ) → length (upto n) ≡ n
-length-upto zero = refl
-length-upto (suc n) = omega (arith, length-append (upto n) (n ∷ []), length-upto n)
-
 length-nets : (n : ℕ) → length (nets_of n) ≡ n
-length-nets n = length_mapped (λ k. k + 1) (upto n) ∙ length-upto n
+length-nets n = length-map (upto n) (λ k. k + 1) ∙ length-upto n
 
 -- they are numbered from 1
 nets_numbered : (n net : ℕ) → IsIn net (nets_of n) → (1 ≤ net) × (net ≤ n)
@@ -47,23 +43,23 @@ nets_numbered (suc n) net i = elim (IsIn-append net (nets_of n) ((n + 1) ∷ [])
 -- each number from 1 on is one of them
 numbered_nets : (n net : ℕ) → 1 ≤ net → net ≤ n → IsIn net (nets_of n)
 numbered_nets zero net low high = absurd (omega arith)
-numbered_nets (suc n) net low high = subst (λ (l : List ℕ). IsIn net l) (sym (nets_more n)) (elim (same_or_not (n + 1) net) [
+numbered_nets (suc n) net low high = subst (λ (l : List ℕ). IsIn net l) (sym (nets_more n)) (elim (cases_eq (n + 1) net) [
   | inl e ↦ IsIn-right net (nets_of n) ((n + 1) ∷ []) (inl e)
   | inr ne ↦ IsIn-left net (nets_of n) ((n + 1) ∷ []) (numbered_nets n net low (omega (arith, ne)))
 ])
 
 -- each stands once
-nets_once : (n net : ℕ) → times_in net (nets_of n) ≤ 1
+nets_once : (n net : ℕ) → occurrences net (nets_of n) ≤ 1
 nets_once zero net = omega arith
 nets_once (suc n) net =
-    subst (λ (l : List ℕ). times_in net l ≤ 1) (sym (nets_more n)) (ends (nets_once n net) (same_or_not (n + 1) net))
+    subst (λ (l : List ℕ). occurrences net l ≤ 1) (sym (nets_more n)) (ends (nets_once n net) (cases_eq (n + 1) net))
   where
-    ends : times_in net (nets_of n) ≤ 1 → (n + 1 ≡ net) ⊎ (n + 1 ≢ net) → times_in net (nets_of n ++ (n + 1) ∷ []) ≤ 1
+    ends : occurrences net (nets_of n) ≤ 1 → (n + 1 ≡ net) ⊎ (n + 1 ≢ net) → occurrences net (nets_of n ++ (n + 1) ∷ []) ≤ 1
     ends once (inl e) =
-        let none : times_in net (nets_of n) ≡ 0 = times_in-absent net (nets_of n) (λ i. let h = nets_numbered n net i in omega arith) in
-        omega (arith, times_in-append net (nets_of n) ((n + 1) ∷ []), times_in-head net (n + 1) [] e)
+        let none : occurrences net (nets_of n) ≡ 0 = occurrences-absent net (nets_of n) (λ i. let h = nets_numbered n net i in omega arith) in
+        omega (arith, occurrences-append net (nets_of n) ((n + 1) ∷ []), occurrences-head net (n + 1) [] e)
     ends once (inr ne) =
-        omega (arith, times_in-append net (nets_of n) ((n + 1) ∷ []), times_in-other net (n + 1) [] ne)
+        omega (arith, occurrences-append net (nets_of n) ((n + 1) ∷ []), occurrences-other net (n + 1) [] ne)
 
 -- what holds of each item holds at each place
 all_of_members : {X : Type 0} (P : X → Type 0) (xs : List X) → ((x : X) → IsIn x xs → P x) → All P xs
@@ -71,18 +67,12 @@ all_of_members P [] h k d l = absurd (omega arith)
 all_of_members P (x ∷ xs) h zero d l = h x (inl refl)
 all_of_members P (x ∷ xs) h (suc k) d l = all_of_members P xs (λ y i. h y (inr i)) k d (omega arith)
 
--- an item, as the netlists say it
-as_item : {X : Type 0} (x : X) (xs : List X) → IsIn x xs → IsItem x xs
-as_item x [] i = absurd i
-as_item x (y ∷ ys) (inl e) = inl e
-as_item x (y ∷ ys) (inr i) = inr (as_item x ys i)
-
 -- the net of each output is an input's
 output_numbered : (inputs : ℕ) (outputs bytes : List ℕ) → IsWireText inputs outputs bytes → (literal : PlainLiteral)
     → IsIn literal (map literal_of_code outputs) → (1 ≤ literal.net) × (literal.net ≤ inputs)
 output_numbered inputs outputs bytes wire literal i =
     let found = IsIn-from_map literal_of_code literal outputs i in
-    let range = wire.outputs_fit.in_range found.0 (as_item found.0 outputs found.1) in
+    let range = wire.outputs_fit.in_range found.0 found.1 in
     let e : found.0 / 2 ≡ literal.net = ap (λ (l : PlainLiteral). l.net) found.2 in
     let low : 2 ≤ found.0 = range.0 in
     let high : found.0 ≤ 2 * inputs + 1 = range.1 in
@@ -101,10 +91,10 @@ fits_of_text inputs outputs bytes wire = record {
     outputs_fit = all_of_members (LiteralFits inputs) (map literal_of_code outputs) (λ literal i. (output_numbered inputs outputs bytes wire literal i).1);
   };
   input_names_fit = unnamed_fit inputs (length (nets_of inputs)) (sym (length-nets inputs));
-  output_names_fit = unnamed_fit (length outputs) (length (map literal_of_code outputs)) (sym (length_mapped literal_of_code outputs));
+  output_names_fit = unnamed_fit (length outputs) (length (map literal_of_code outputs)) (sym (length-map outputs literal_of_code));
   limits = record {
     few_inputs = omega (arith, length-nets inputs, wire.few_inputs);
-    few_outputs = omega (arith, length_mapped literal_of_code outputs, wire.few_outputs);
+    few_outputs = omega (arith, length-map outputs literal_of_code, wire.few_outputs);
     few_latches = omega arith;
     few_nets = omega (arith, wire.few_inputs);
     small = omega arith;
@@ -118,8 +108,8 @@ driven inputs outputs = append-nil (nets_of inputs)
 -- it is well founded
 pub founded_of_text : (inputs : ℕ) (outputs bytes : List ℕ) → IsWireText inputs outputs bytes → IsWellFounded (wire_machine inputs outputs)
 founded_of_text inputs outputs bytes wire = record {
-  driven_once = λ net twice. let one : times_in net (driven_nets (wire_machine inputs outputs)) ≤ 1 =
-      subst (λ (l : List ℕ). times_in net l ≤ 1) (sym (driven inputs outputs)) (nets_once inputs net) in omega (arith, twice, one);
+  driven_once = λ net twice. let one : occurrences net (driven_nets (wire_machine inputs outputs)) ≤ 1 =
+      subst (λ (l : List ℕ). occurrences net l ≤ 1) (sym (driven inputs outputs)) (nets_once inputs net) in omega (arith, twice, one);
   all_driven = λ net not_zero used.
       let found = IsIn-from_map (λ (literal : PlainLiteral). literal.net) net (map literal_of_code outputs) used in
       let range = output_numbered inputs outputs bytes wire found.0 found.1 in
@@ -147,30 +137,13 @@ agrees_in machine vectors valuations cycle vector run e = agrees_from machine (i
 
 -- the items of mapped lists
 mapped_at : {X : Type 0} (f : X → Bool) (xs : List X) (k : ℕ) (x : X) → slice_get xs k ≡ Some x → bit_at (map f xs) k ≡ f x
-mapped_at f xs k x e = ap (λ (o : Option Bool). unwrap_or o false) (slice_get-map f xs k ∙ ap (option_map f) e)
-
-slice_get_front : (xs ys : List ℕ) (k : ℕ) → k < length xs → slice_get (xs ++ ys) k ≡ slice_get xs k
-slice_get_front [] ys k h = absurd (omega arith)
-slice_get_front (x ∷ xs) ys zero h = refl
-slice_get_front (x ∷ xs) ys (suc k) h = slice_get_front xs ys k (omega arith)
-
-slice_get_seam : (xs : List ℕ) (y : ℕ) → slice_get (xs ++ y ∷ []) (length xs) ≡ Some y
-slice_get_seam [] y = refl
-slice_get_seam (x ∷ xs) y = slice_get_seam xs y
-
-upto_at : (n k : ℕ) → k < n → slice_get (upto n) k ≡ Some k
-upto_at zero k h = absurd (omega arith)
-upto_at (suc n) k h = elim (same_or_not n k) [
-  | inl e ↦ subst (λ (j : ℕ). slice_get (upto n ++ n ∷ []) j ≡ Some j) e
-      (subst (λ (j : ℕ). slice_get (upto n ++ n ∷ []) j ≡ Some n) (length-upto n) (slice_get_seam (upto n) n))
-  | inr ne ↦ slice_get_front (upto n) (n ∷ []) k (omega (arith, ne, length-upto n)) ∙ upto_at n k (omega (arith, ne))
-]
+mapped_at f xs k x e = get_or_from_slice_get (map f xs) k (f x) false (slice_get-map f xs k ∙ ap (option_map f) e)
 
 -- the bit of an input's net is the vector's
 pub input_bit : (inputs : ℕ) (outputs : List ℕ) (state vector valuation : List Bool) (k : ℕ)
-    → Agrees (wire_machine inputs outputs) state vector valuation → k < inputs → bit_in valuation (k + 1) ≡ bit_at vector k
+    → Agrees (wire_machine inputs outputs) state vector valuation → k < inputs → bit_at valuation (k + 1) ≡ bit_at vector k
 input_bit inputs outputs state vector valuation k agrees h =
-    sym (mapped_at (bit_in valuation) (nets_of inputs) k (k + 1) (slice_get-map (λ j. j + 1) (upto inputs) k ∙ ap (option_map (λ j. j + 1)) (upto_at inputs k h)))
+    sym (mapped_at (bit_at valuation) (nets_of inputs) k (k + 1) (slice_get-map (λ j. j + 1) (upto inputs) k ∙ ap (option_map (λ j. j + 1)) (slice_get-upto inputs k h)))
     ∙ ap (λ (bits : List Bool). bit_at bits k) agrees.inputs_agree
 
 -- the value of a code's literal is its net's bit with the sign of its slot
@@ -189,12 +162,6 @@ value_of_code bit code low = signed (bit (code / 2)) (code % 2 == 1) ((code - 2)
         let h : code % 2 ≢ 1 = eqb-false (code % 2) 1 e in
         eq-eqb ((code - 2) % 2) 0 (omega (arith, h)) ∙ ap not (sym e)
 
--- an item at a place is one of the list
-item_at : {X : Type 0} (xs : List X) (k : ℕ) (x : X) → slice_get xs k ≡ Some x → IsItem x xs
-item_at [] k x e = absurd (none-some x e)
-item_at (y ∷ ys) zero x e = inl (same_Some y x e)
-item_at (y ∷ ys) (suc k) x e = inr (item_at ys k x e)
-
 -- the bit of an output is the vector's at the port of its code, with the sign of the code
 pub output_bit : (inputs : ℕ) (outputs bytes : List ℕ) (vectors valuations : List (List Bool)) (cycle : ℕ) (vector : List Bool) (port code : ℕ)
     → IsWireText inputs outputs bytes → IsRun (wire_machine inputs outputs) vectors valuations → slice_get vectors cycle ≡ Some vector
@@ -203,19 +170,19 @@ pub output_bit : (inputs : ℕ) (outputs bytes : List ℕ) (vectors valuations :
 output_bit inputs outputs bytes vectors valuations cycle vector port code wire run v o =
     let valuation : List Bool = slice_index_or valuations cycle [] in
     let agrees = agrees_in (wire_machine inputs outputs) vectors valuations cycle vector run v in
-    let range = wire.outputs_fit.in_range code (item_at outputs port code o) in
+    let range = wire.outputs_fit.in_range code (IsIn-place code outputs port o) in
     let low : 2 ≤ code = range.0 in
     let high : code ≤ 2 * inputs + 1 = range.1 in
     let half : (code - 2) / 2 + 1 ≡ code / 2 = omega arith in
-    let input : bit_in valuation (code / 2) ≡ bit_at vector ((code - 2) / 2) =
-    subst (λ (net : ℕ). bit_in valuation net ≡ bit_at vector ((code - 2) / 2)) half
+    let input : bit_at valuation (code / 2) ≡ bit_at vector ((code - 2) / 2) =
+    subst (λ (net : ℕ). bit_at valuation net ≡ bit_at vector ((code - 2) / 2)) half
     (input_bit inputs outputs agrees.0 vector valuation ((code - 2) / 2) agrees.1 (omega arith)) in
     let literal : slice_get (map literal_of_code outputs) port ≡ Some (literal_of_code code) =
     slice_get-map literal_of_code outputs port ∙ ap (option_map literal_of_code) o in
-    let value : slice_get (map (literal_value (bit_in valuation)) (map literal_of_code outputs)) port ≡ Some (literal_value (bit_in valuation) (literal_of_code code)) =
-    slice_get-map (literal_value (bit_in valuation)) (map literal_of_code outputs) port ∙ ap (option_map (literal_value (bit_in valuation))) literal in
-    get_or_from_slice_get (map (literal_value (bit_in valuation)) (map literal_of_code outputs)) port (literal_value (bit_in valuation) (literal_of_code code)) false value
-    ∙ value_of_code (bit_in valuation) code low
+    let value : slice_get (map (literal_value (bit_at valuation)) (map literal_of_code outputs)) port ≡ Some (literal_value (bit_at valuation) (literal_of_code code)) =
+    slice_get-map (literal_value (bit_at valuation)) (map literal_of_code outputs) port ∙ ap (option_map (literal_value (bit_at valuation))) literal in
+    get_or_from_slice_get (map (literal_value (bit_at valuation)) (map literal_of_code outputs)) port (literal_value (bit_at valuation) (literal_of_code code)) false value
+    ∙ value_of_code (bit_at valuation) code low
     ∙ ap (λ (b : Bool). has_sign b (sign_of_slot (code - 2))) input
 
 -- the slot of a code
@@ -240,7 +207,7 @@ pub slot_at : (inputs : ℕ) (outputs bytes : List ℕ) (port slot : ℕ) → Is
 slot_at inputs outputs bytes port slot wire s =
     let literal = from_mapped_at slot_of (map literal_of_code outputs) port slot s in
     let code = from_mapped_at literal_of_code outputs port literal.0 literal.1 in
-    let range = wire.outputs_fit.in_range code.0 (item_at outputs port code.0 code.1) in
+    let range = wire.outputs_fit.in_range code.0 (IsIn-place code.0 outputs port code.1) in
     (code.0, code.1, range.0, range.1, sym literal.2 ∙ ap slot_of (sym code.2) ∙ slot_of_code code.0 range.0)
 
 -- the slot of a port is one of the inputs'

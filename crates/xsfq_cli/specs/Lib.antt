@@ -1,9 +1,10 @@
+-- The definitions of this crate. Those of wires go when real circuits come.
+pub mod Headline
+pub mod Compiling
 pub mod Orders
 pub mod Outcomes
-pub mod Writing
-pub mod Parting
-pub mod Compiled
-pub mod WireTexts
 pub mod Verdicts
-pub mod OutputCodes
+pub mod WireCodes
+pub mod WireFields
 pub mod WireNetlists
+pub mod WireTexts

@@ -6,8 +6,8 @@ use Rattle.pulse_ids.specs.declared.literals.Sign.{Sign}
 use Rattle.pulse_ids.specs.declared.literals.Sign.TheVariants.{Pos, Neg}
 use Rattle.source_machine.specs.Machines.{PlainLiteral, PlainMachine}
 use Rattle.cell_netlist.specs.declared.lines.Rail.{Rail}
-use Rattle.cell_netlist.specs.Lists.{occurrences, bit_at}
-use Rattle.cell_netlist.specs.NetlistLines.{NetlistLines, netlist_of}
+use Rattle.pulse_ids.specs.Lists.{occurrences, bit_at}
+use Rattle.cell_netlist.specs.Netlists.{PlainNetlist, netlist_of}
 
 -- the slot of an input's literal: twice the port, plus 1 for the negative rail; input k is net k + 1
 abbrev pub slot_of : PlainLiteral → ℕ
@@ -72,7 +72,7 @@ output_rails_from wire_of_slot port (slot ∷ slots) =
     record { port = port; sign = Pos; wire = numbered (wire_of_slot slot) } ∷ output_rails_from wire_of_slot (port + 1) slots
 
 -- the netlist of wires with so many inputs and these slots as outputs
-abbrev pub wires_netlist : ℕ → List ℕ → NetlistLines
+abbrev pub wires_netlist : ℕ → List ℕ → PlainNetlist
 wires_netlist inputs slots = netlist_of inputs (length slots)
     (input_rails_from 0 (passing_below (is_needed slots) (2 * inputs))) []
     (output_rails_from (rank (is_needed slots)) 0 slots) [] []

@@ -3,7 +3,7 @@
 use Rattle.std.specs.Prelude.{◌≡◌, ◌≤◌, ◌+◌, ◌*◌, ◌/◌, ◌%◌, ◌==◌, ◌++◌, ◌∷◌, [], ℕ, zero, suc, Option, None, List, map, length, replicate, codes, decimal}
 use Rattle.std.specs.List.{flat_map}
 use Rattle.source_machine.specs.Machines.{PlainLiteral, PlainMachine}
-use Rattle.cell_netlist.specs.Lists.{IsIn, occurrences, upto}
+use Rattle.pulse_ids.specs.Lists.{IsIn, occurrences, upto}
 use Rattle.cell_netlist.specs.Text.{line_of}
 
 -- a line of one number

@@ -1,8 +1,9 @@
 //! A source read whole, up to a limit.
 
-ghost use Rattle.std.specs.Prelude.{◌≡◌, ◌≤◌, ◌<◌, ◌^◌, IfOk, OnOk, IsTrue, IsFalse, length};
+ghost use Rattle.std.specs.Prelude.{◌≡◌, ◌≤◌, ◌<◌, ◌+◌, ◌^◌, IfOk, OnOk, IsTrue, IsFalse, length};
 ghost use Rattle.std.specs.Io.KnownBytes.{Consumes, IsAtEnd};
 ghost use Rattle.byte_ports.specs.Causes.{Rose};
+ghost use Rattle.xsfq_cli.specs.Compiling.{TakesAtMost};
 
 use byte_ports::Source;
 use pulse_ids::NoMemory;
@@ -26,12 +27,14 @@ pub(crate) enum ReadError {
 
 /// Reads to the end of the source, and no further once it has taken `limit` bytes or more. It reads 4,096 bytes
 /// a call.
+#[tactic(auto, using(crate::proofs::BytesTaken::no_read_more))]
 pub(crate) fn read_text<S: Source>(
     alloc: Global,
     input: &mut S,
     limit: usize,
 ) -> Result<Text, ReadError>
     requires { limit < 2 ^ 32 }
+    ensures bounded { TakesAtMost (limit + 4095) (S.left input.old) (S.left input.new) }
     ensures took { IfOk result (λ text. Consumes (S.left input.old) (S.left input.new) text.bytes.items) }
     ensures whole { IfOk result (λ text. IsTrue text.ended → IsAtEnd (S.left input.new)) }
     ensures long { IfOk result (λ text. IsFalse text.ended → limit ≤ length text.bytes.items) }

@@ -1,4 +1,4 @@
-use Rattle.aig_core.proofs.Shown.{adds_two_bits, tidy_is_judged, folds_are_judged}
+use Rattle.aig_core.proofs.HalfAdder.{adds_two_bits, tidy_is_judged, folds_are_judged}
 use Rattle.aig_core.proofs.laws.examples.Goals as goal
 
 pub returns : goal.returns

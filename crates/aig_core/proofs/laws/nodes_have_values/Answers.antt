@@ -1,4 +1,5 @@
-use Rattle.aig_core.proofs.LawLemmas.{conjunctions_are_pairs, nodes_have_their_bits}
+use Rattle.aig_core.proofs.NodePlaces.{conjunctions_are_pairs}
+use Rattle.aig_core.proofs.NodeBits.{nodes_have_their_bits}
 use Rattle.aig_core.proofs.laws.nodes_have_values.Goals as goal
 
 pub returns : goal.returns

@@ -1,7 +1,7 @@
 -- Each write takes the sink further in the piece, and one that fails leaves it where it was.
 use Rattle.std.proofs.Common.{arith, ◌∙◌}
 use Rattle.std.proofs.lemmas.Grind.{common_steps}
-use Rattle.byte_ports.proofs.Pieces.{grown_further, front_so_far}
+use Rattle.byte_ports.proofs.Pieces.{grown_further, failed_so_far}
 use Rattle.byte_ports.proofs.writing.write_all.Goals as goal
 
 pub loop-at-preserved : goal.loop-at-preserved
@@ -14,5 +14,6 @@ loop-at-preserved g c =
       untouched = grind (arith, common_steps, c.in-Ok.ensures.progress);
     }
 
-pub returns-in-Err-clause-err : goal.returns-in-Err-clause-err
-returns-in-Err-clause-err g c = front_so_far _ _ _ c.loop-at.at _ c.loop-at.invariant.grown c.in-Err.ensures.bytes
+pub returns-in-Err-clause-written : goal.returns-in-Err-clause-written
+returns-in-Err-clause-written g c =
+    failed_so_far _ _ _ c.loop-at.at _ _ _ _ _ c.loop-at.invariant.grown c.in-Err.ensures.bytes c.loop-at.invariant.calm c.in-Err.ensures.cause

@@ -1,5 +1,5 @@
 use Rattle.cell_netlist.proofs.PlaceLemmas.{drivers-count, readers-count, delivery-to}
-use Rattle.cell_netlist.proofs.Shapes.{moments_keep_shape}
+use Rattle.cell_netlist.proofs.MomentShapes.{moments_keep_shape}
 use Rattle.cell_netlist.proofs.laws.readers_of_wires.Goals as goal
 
 pub returns-clause-places : goal.returns-clause-places

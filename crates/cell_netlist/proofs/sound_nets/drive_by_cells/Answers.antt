@@ -1,5 +1,5 @@
 use Rattle.std.proofs.Common.{◌≡◌, ◌+◌, ◌∙◌, Some, length, drop, slice_get, ap, subst, arith}
-use Rattle.cell_netlist.specs.NetlistLines.{outs}
+use Rattle.cell_netlist.specs.Netlists.{outs}
 use Rattle.cell_netlist.specs.Places.{cell_places, driving}
 use Rattle.cell_netlist.specs.PlaceTables.{written}
 use Rattle.cell_netlist.proofs.TableLemmas.{written_cell, written-length, cell_bounds}
@@ -8,18 +8,18 @@ use Rattle.cell_netlist.proofs.sound_nets.drive_by_cells.Goals as goal
 pub drive_by_cell-requires : goal.drive_by_cell-requires
 drive_by_cell-requires c =
     let at = subst (λ k. slice_get c.args.cells.now k ≡ Some c.get.result.now) c.new-id.ensures c.get.ensures in
-    let bound = cell_bounds outs c.args.cells.now c.cells.number c.get.result.now at in
-    let low = c.cells.invariant.1 in
+    let bound = cell_bounds outs c.args.cells.now c.loop-number.number c.get.result.now at in
+    let low = c.loop-number.invariant.1 in
     omega arith
 
-pub cells-preserved : goal.cells-preserved
-cells-preserved c =
+pub loop-number-preserved : goal.loop-number-preserved
+loop-number-preserved c =
     let at = subst (λ k. slice_get c.args.cells.now k ≡ Some c.get.result.now) c.new-id.ensures c.get.ensures in
-    let bound = cell_bounds outs c.args.cells.now c.cells.number c.get.result.now at in
-    let low = c.cells.invariant.1 in
-    let put = c.drive_by_cell.ensures ∙ ap (λ k. written (driving k c.get.result.now) c.cells.table) c.new-id.ensures in
-    let long = ap length put ∙ written-length (driving c.cells.number c.get.result.now) c.cells.table in (
-      ap (λ t. written (cell_places driving (c.cells.number + 1) (drop (c.cells.number + 1) c.args.cells.now)) t) put
-          ∙ (written_cell driving c.args.cells.now c.cells.number c.get.result.now c.cells.table at ∙ c.cells.invariant.0),
+    let bound = cell_bounds outs c.args.cells.now c.loop-number.number c.get.result.now at in
+    let low = c.loop-number.invariant.1 in
+    let put = c.drive_by_cell.ensures ∙ ap (λ k. written (driving k c.get.result.now) c.loop-number.table) c.new-id.ensures in
+    let long = ap length put ∙ written-length (driving c.loop-number.number c.get.result.now) c.loop-number.table in (
+      ap (λ t. written (cell_places driving (c.loop-number.number + 1) (drop (c.loop-number.number + 1) c.args.cells.now)) t) put
+          ∙ (written_cell driving c.args.cells.now c.loop-number.number c.get.result.now c.loop-number.table at ∙ c.loop-number.invariant.0),
       omega arith,
     )

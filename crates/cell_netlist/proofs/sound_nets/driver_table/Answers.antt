@@ -2,9 +2,9 @@ use Rattle.std.proofs.Common.{length, replicate, ap, ◌∙◌, sym, arith}
 use Rattle.std.proofs.lemmas.List.{length-replicate}
 use Rattle.pulse_ids.specs.Ids.{numbered}
 use Rattle.cell_netlist.specs.declared.lines.Driver.TheVariants as drivers_of
-use Rattle.cell_netlist.specs.NetlistLines.{number_of_wires}
+use Rattle.cell_netlist.specs.Netlists.{number_of_wires}
 use Rattle.cell_netlist.specs.Places.{driving, cell_places, rail_places}
-use Rattle.cell_netlist.proofs.NetlistLemmas.{number_of_wires-parts}
+use Rattle.cell_netlist.proofs.WireBounds.{number_of_wires-parts}
 use Rattle.cell_netlist.proofs.TableLemmas.{numbered-is, written-append, written-length}
 use Rattle.cell_netlist.proofs.sound_nets.driver_table.Goals as goal
 
@@ -26,4 +26,5 @@ drive_by_cells-requires c =
 pub returns : goal.returns
 returns c =
     rw (c.drive_by_cells.ensures, c.cells.ensures, c.drive_by_rails.ensures, c.input_rails.ensures, c.in_ok-table.ensures, c.wires.ensures.value, numbered-is c.new.result 0 c.new.ensures)
-    (sym (written-append (rail_places (λ r. drivers_of.Input (numbered r)) 0 c.args.net.now.input_rails) (cell_places driving 0 c.args.net.now.cells) (replicate (number_of_wires c.args.net.now) (drivers_of.Input (numbered 0)))))
+    (sym (written-append (rail_places (λ r. drivers_of.Input (numbered r)) 0 c.args.net.now.input_rails) (cell_places driving 0 c.args.net.now.cells)
+    (replicate (number_of_wires c.args.net.now) (drivers_of.Input (numbered 0)))))

@@ -2,9 +2,9 @@ use Rattle.std.proofs.Common.{length, replicate, ap, ◌∙◌, sym, arith}
 use Rattle.std.proofs.lemmas.List.{length-replicate}
 use Rattle.pulse_ids.specs.Ids.{numbered}
 use Rattle.cell_netlist.specs.declared.lines.Reader.TheVariants as readers_of
-use Rattle.cell_netlist.specs.NetlistLines.{number_of_wires}
+use Rattle.cell_netlist.specs.Netlists.{number_of_wires}
 use Rattle.cell_netlist.specs.Places.{reading, cell_places, rail_places}
-use Rattle.cell_netlist.proofs.NetlistLemmas.{number_of_wires-parts}
+use Rattle.cell_netlist.proofs.WireBounds.{number_of_wires-parts}
 use Rattle.cell_netlist.proofs.TableLemmas.{numbered-is, written-append, written-length}
 use Rattle.cell_netlist.proofs.sound_nets.reader_table.Goals as goal
 
@@ -26,4 +26,5 @@ read_by_rails-requires c =
 pub returns : goal.returns
 returns c =
     rw (c.read_by_rails.ensures, c.output_rails.ensures, c.read_by_cells.ensures, c.cells.ensures, c.in_ok-table.ensures, c.wires.ensures.value, numbered-is c.new.result 0 c.new.ensures)
-    (sym (written-append (cell_places reading 0 c.args.net.now.cells) (rail_places (λ r. readers_of.Output (numbered r)) 0 c.args.net.now.output_rails) (replicate (number_of_wires c.args.net.now) (readers_of.Output (numbered 0)))))
+    (sym (written-append (cell_places reading 0 c.args.net.now.cells) (rail_places (λ r. readers_of.Output (numbered r)) 0 c.args.net.now.output_rails)
+    (replicate (number_of_wires c.args.net.now) (readers_of.Output (numbered 0)))))

@@ -12,4 +12,12 @@ set-requires c =
 pub loop-number-preserved : goal.loop-number-preserved
 loop-number-preserved c =
     let low : c.loop-number.number < length c.args.raw.now.inputs.items = omega (arith, c.loop-number-test.true, c.len-number-end.ensures) in
-    input_goes_on c.args.raw.now c.requires.fits c.args.graph.now c.loop-number.literals c.set.new.self c.loop-number.number c.input.result c.index.result.now low c.loop-number.invariant (c.set.ensures ∙ ap (λ (n : NetId). set c.loop-number.literals n.number c.input.result) c.index.ensures) (omega (arith, low, ap (λ (l : NodeLit). l.id.number) c.input.ensures.literal, c.loop-number.invariant.inputs, length-map c.args.raw.now.inputs.items (λ (n : NetId). n.number))) c.input.ensures.value
+    input_goes_on c.args.raw.now c.requires.fits c.args.graph.now c.loop-number.literals c.set.new.self c.loop-number.number c.input.result c.index.result.now low c.loop-number.invariant
+    (c.set.ensures ∙ ap (λ (n : NetId). set c.loop-number.literals n.number c.input.result) c.index.ensures)
+    (omega (
+      arith,
+      low,
+      ap (λ (l : NodeLit). l.id.number) c.input.ensures.literal,
+      c.loop-number.invariant.inputs,
+      length-map c.args.raw.now.inputs.items (λ (n : NetId). n.number),
+    )) c.input.ensures.value

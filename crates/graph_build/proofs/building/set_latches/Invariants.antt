@@ -1,6 +1,6 @@
 use Rattle.std.proofs.Common.{◌≡◌, ◌⊎◌, map, take}
 use Rattle.source_machine.specs.Machines.{machine_of}
-use Rattle.source_machine.specs.Members.{IsIn}
+use Rattle.pulse_ids.specs.Lists.{IsIn}
 use Rattle.graph_build.specs.Literals.{HasLiterals}
 use Rattle.graph_build.proofs.building.set_latches.Given as goal
 

@@ -1,5 +1,5 @@
-use Rattle.pulse_world.proofs.SmallNetlists.{half_adder_delivers, constant_delivers, toggle_delivers, inverter_delivers}
-use Rattle.pulse_world.proofs.Unsound.{rules_are_needed}
+use Rattle.pulse_world.proofs.SoundExamples.{half_adder_delivers, constant_delivers, toggle_delivers, inverter_delivers}
+use Rattle.pulse_world.proofs.UnsoundExamples.{rules_are_needed}
 use Rattle.pulse_world.proofs.examples.examples_deliver.Goals as goal
 
 pub returns-clause-half_adder : goal.returns-clause-half_adder

@@ -1,6 +1,6 @@
-use Rattle.pulse_world.proofs.Along.{order_law}
-use Rattle.pulse_world.proofs.OutputBits.{bit_law}
-use Rattle.pulse_world.proofs.Due.{follow_law}
+use Rattle.pulse_world.proofs.MomentInvariant.{order_law}
+use Rattle.pulse_world.proofs.PortBits.{bit_law}
+use Rattle.pulse_world.proofs.DueWires.{follow_law}
 use Rattle.pulse_world.proofs.orders.every_order.Goals as goal
 
 pub returns-clause-delivers : goal.returns-clause-delivers

@@ -1,4 +1,4 @@
-use Rattle.pulse_world.proofs.OutputBits.{order_law_without_cells, run_exists_without_cells, bit_law_without_cells}
+use Rattle.pulse_world.proofs.WithoutCells.{order_law_without_cells, run_exists_without_cells, bit_law_without_cells}
 use Rattle.pulse_world.proofs.orders.every_order_without_cells.Goals as goal
 
 pub returns-clause-delivers : goal.returns-clause-delivers

@@ -1,4 +1,4 @@
-use Rattle.pulse_world.proofs.Due.{once_per_cycle, link_per_cycle, outputs_read_no_link, gates_read_no_link}
+use Rattle.pulse_world.proofs.PulsesPerCycle.{once_per_cycle, link_per_cycle, outputs_read_no_link, gates_read_no_link}
 use Rattle.pulse_world.proofs.orders.pulses_per_cycle.Goals as goal
 
 pub returns-clause-plain : goal.returns-clause-plain

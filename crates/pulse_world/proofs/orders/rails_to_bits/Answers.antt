@@ -1,4 +1,4 @@
-use Rattle.pulse_world.proofs.Bridge as bridge
+use Rattle.pulse_world.proofs.PortBits as bridge
 use Rattle.pulse_world.proofs.orders.rails_to_bits.Goals as goal
 
 pub returns : goal.returns

@@ -1,37 +1,34 @@
 use Rattle.std.proofs.Common.{rules, ◌≡◌, Some, inl, inr, slice_get, subst, arith, refl}
 use Rattle.std.proofs.lemmas.Option.{slice_get_within}
+use Rattle.std.proofs.lemmas.Bool.{cases_eq}
 use Rattle.cell_netlist.specs.declared.kinds.Held.TheVariants.{Rest}
-use Rattle.cell_netlist.specs.World.{Content}
-use Rattle.pulse_world.specs.declared.reacting.Kept.{Kept}
-use Rattle.pulse_world.specs.Reacting.{content_of}
-use Rattle.pulse_world.proofs.Sums.{same_or_not, IsIn-map, IsIn-from_map}
-use Rattle.pulse_world.proofs.Rows.{at-item, item-at}
+use Rattle.cell_netlist.specs.declared.kinds.CellState.{CellState}
+use Rattle.pulse_ids.proofs.CallerLemmas.{IsIn-place, place_of}
 use Rattle.pulse_world.proofs.worlds.do_rest.Goals as goal
 
-pub returns-then-ne : goal.returns-then-ne
-returns-then-ne c =
+pub returns-then-not-rests : goal.returns-then-not-rests
+returns-then-not-rests c =
     let moved : c.get.result.now.held ≡ Rest → ⊥ = search rules in
-    (λ e. absurd cc, λ all. absurd (moved (all (content_of c.get.result.now) (IsIn-map content_of c.get.result.now c.args.kept.now (at-item c.args.kept.now c.get.result.now c.new.result.number c.get.ensures)))))
+    (λ e. absurd cc, λ all. absurd (moved (all c.get.result.now (IsIn-place c.get.result.now c.args.cell_states.now c.new.result.number c.get.ensures))))
 
-pub cells-preserved : goal.cells-preserved
-cells-preserved c at its lt e = elim (same_or_not at c.cells.number) [
-  | inr other ↦ c.cells.invariant at its (omega arith) e
+pub loop-number-preserved : goal.loop-number-preserved
+loop-number-preserved c at its lt e = elim (cases_eq at c.loop-number.number) [
+  | inr other ↦ c.loop-number.invariant at its (omega arith) e
   | inl same ↦
       let rests : c.get.result.now.held ≡ Rest = search rules in
-      let here = subst (λ k. slice_get c.args.kept.now k ≡ Some c.get.result.now) c.new.ensures c.get.ensures in
-      let there = subst (λ k. slice_get c.args.kept.now k ≡ Some its) same e in
+      let here = subst (λ k. slice_get c.args.cell_states.now k ≡ Some c.get.result.now) c.new.ensures c.get.ensures in
+      let there = subst (λ k. slice_get c.args.cell_states.now k ≡ Some its) same e in
       let is : c.get.result.now ≡ its = cc in
-      subst (λ (k : Kept). k.held ≡ Rest) is rests
+      subst (λ (k : CellState). k.held ≡ Rest) is rests
 ]
 
 pub returns : goal.returns
 returns c = (
-  λ e content h.
-      let found = IsIn-from_map content_of content c.args.kept.now h in
-      let place = item-at c.args.kept.now found.0 found.1 in
-      let inside = slice_get_within c.args.kept.now place.0 found.0 place.1 in
-      let past = c.cells-test.false in
+  λ e cell_state h.
+      let place = place_of cell_state c.args.cell_states.now h in
+      let inside = slice_get_within c.args.cell_states.now place.0 cell_state place.1 in
+      let past = c.loop-number-test.false in
       let all = c.len-number-end.ensures in
-      subst (λ (k : Content). k.held ≡ Rest) found.2 (c.cells.invariant place.0 found.0 (omega arith) place.1),
+      c.loop-number.invariant place.0 cell_state (omega arith) place.1,
   λ all. refl,
 )

@@ -1,5 +1,5 @@
-use Rattle.source_machine.proofs.Unique.{runs_are_equal, same_valuation}
-use Rattle.source_machine.proofs.Exists.{run_exists, some_valuation}
+use Rattle.source_machine.proofs.Uniqueness.{runs_are_equal, same_valuation}
+use Rattle.source_machine.proofs.Existence.{run_exists, some_valuation}
 use Rattle.source_machine.proofs.laws.one_run.Goals as goal
 
 pub returns : goal.returns

@@ -1,7 +1,7 @@
 use Rattle.std.proofs.Common.{◌<◌, length, sym, refl, ◌∙◌, subst, arith}
+use Rattle.std.proofs.lemmas.List.{length-map}
 use Rattle.pulse_ids.specs.Ids.{NetId}
-use Rattle.source_machine.proofs.Mapped.{length_mapped}
-use Rattle.source_machine.proofs.Evaluated.{given_more, key_at, key_fits}
+use Rattle.source_machine.proofs.Evaluating.{given_more, key_at, key_fits}
 use Rattle.source_machine.proofs.valuations.give_inputs.Goals as goal
 
 pub bounds-bits-number : goal.bounds-bits-number
@@ -10,4 +10,7 @@ bounds-bits-number c =
 
 pub loop-place-preserved : goal.loop-place-preserved
 loop-place-preserved c =
-    given_more _ _ _ c.loop-place.place c.number.result _ _ (omega (arith, c.loop-place-test.true, length_mapped (λ (net : NetId). net.number) c.args.nets.now)) (c.number.ensures ∙ key_at (λ (net : NetId). net.number) _ _ _ c.loop-place-test.true) refl (subst (λ n. n < length c.loop-place.bits) (sym c.number.ensures) (key_fits (λ (net : NetId). net.number) _ _ _ _ _ c.loop-place-test.true c.requires.fit c.loop-place.invariant.width)) c.loop-place.invariant
+    given_more _ _ _ c.loop-place.place c.number.result _ _ (omega (arith, c.loop-place-test.true, length-map c.args.nets.now (λ (net : NetId). net.number)))
+    (c.number.ensures ∙ key_at (λ (net : NetId). net.number) _ _ _ c.loop-place-test.true) refl
+    (subst (λ n. n < length c.loop-place.bits) (sym c.number.ensures)
+    (key_fits (λ (net : NetId). net.number) _ _ _ _ _ c.loop-place-test.true c.requires.fit c.loop-place.invariant.width)) c.loop-place.invariant

@@ -1,5 +1,5 @@
 use Rattle.std.proofs.Common.{map}
-use Rattle.source_machine.proofs.Evaluated.{IsGivenTo}
+use Rattle.source_machine.proofs.Evaluating.{IsGivenTo}
 use Rattle.source_machine.proofs.valuations.give_inputs.Given as goal
 
 -- the nets so far have their bits

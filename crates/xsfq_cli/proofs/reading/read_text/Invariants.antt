@@ -1,4 +1,5 @@
-use Rattle.std.proofs.Common.{◌≡◌, ◌+◌, ◌-◌, vec_len}
+-- What was read is what the source has lost.
+use Rattle.std.proofs.Common.{◌≡◌, ◌+◌, ◌-◌, ◌≤◌, length, vec_len}
 use Rattle.std.specs.Io.KnownBytes.{Consumes}
 use Rattle.xsfq_cli.proofs.reading.read_text.Given as goal
 
@@ -6,6 +7,7 @@ use Rattle.xsfq_cli.proofs.reading.read_text.Given as goal
 abbrev pub invariant-loop-piece : goal.invariant-loop-piece
 invariant-loop-piece g l = record {
   took : Consumes (g.S.Source.left l.fn.input) (g.S.Source.left l.input) l.bytes.items;
+  few : length l.bytes.items ≤ l.limit + 4095;
   calm : g.S.Source.faults l.input ≡ g.S.Source.faults l.fn.input;
 }
 

@@ -12,4 +12,5 @@ pub returns-clause-node : goal.returns-clause-node
 returns-clause-node c = node-latch-at c.args.self.now c.new-2.result.id.number c.args.k c.requires (number_is c)
 
 pub returns-clause-value : goal.returns-clause-value
-returns-clause-value c = λ state vector. ap (value_of c.args.self.now state vector) (positive_is c.new-2.result (1 + c.args.self.now.inputs + c.args.k) (number_is c) c.new-2.ensures.negated) ∙ value-latch state vector c.args.self.now c.args.k c.requires
+returns-clause-value c = λ state vector. ap (value_of c.args.self.now state vector)
+    (positive_is c.new-2.result (1 + c.args.self.now.inputs + c.args.k) (number_is c) c.new-2.ensures.negated) ∙ value-latch state vector c.args.self.now c.args.k c.requires

@@ -11,7 +11,9 @@ before c =
     record { inputs = c.self.inside.inputs; latches = c.self.inside.latches; pairs = c.self.inside.pairs.keys }
 
 pub invariant_of-self : goal.invariant_of-self
-invariant_of-self c = kept_inserted (before c) c.args.pair c.insert_full.new.self.keys c.in-Ok.ensures.keys c.self.invariant (subst (λ graph. length graph.pairs < 2 ^ 18) (sym c.self.view_is) c.requires.room) (subst (λ graph. IsTidyPair (count_of graph) c.args.pair) (sym c.self.view_is) c.requires.pair)
+invariant_of-self c = kept_inserted (before c) c.args.pair c.insert_full.new.self.keys c.in-Ok.ensures.keys c.self.invariant
+    (subst (λ graph. length graph.pairs < 2 ^ 18) (sym c.self.view_is) c.requires.room)
+    (subst (λ graph. IsTidyPair (count_of graph) c.args.pair) (sym c.self.view_is) c.requires.pair)
 
 -- and the same where the pair has its place
 abbrev placed : goal.After-conjunction_literal → PlainGraph
@@ -30,8 +32,11 @@ returns-in-Ok-clause-found c = λ place at.
 
 pub returns-in-Ok-clause-added : goal.returns-in-Ok-clause-added
 returns-in-Ok-clause-added c = λ absent.
-    let r = added_at (placed c) c.args.pair c.insert_full.new.self.keys c.in-Ok.ensures.keys c.in-Ok.place c.in-Ok.ensures.stored (subst (λ graph. IsAbsent graph c.args.pair) (sym c.self.view_is) absent) in
+    let r = added_at (placed c) c.args.pair c.insert_full.new.self.keys c.in-Ok.ensures.keys c.in-Ok.place c.in-Ok.ensures.stored
+    (subst (λ graph. IsAbsent graph c.args.pair) (sym c.self.view_is) absent) in
     (literal_is c (length c.self.inside.pairs.keys) r.0 ∙ ap (λ graph. positive (count_of graph)) c.self.view_is, r.1 ∙ ap (λ graph. with_pair graph c.args.pair) c.self.view_is)
 
 pub returns-in-Err-clause-found : goal.returns-in-Err-clause-found
-returns-in-Err-clause-found c = λ place at. absurd (true≢false (sym (found_any (record { inputs = c.self.inside.inputs; latches = c.self.inside.latches; pairs = c.self.inside.pairs.keys }) c.args.pair place (subst (λ graph. slice_get graph.pairs place ≡ Some c.args.pair) (sym c.self.view_is) at)) ∙ c.in-Err.ensures.absent))
+returns-in-Err-clause-found c = λ place at. absurd
+    (true≢false (sym (found_any (record { inputs = c.self.inside.inputs; latches = c.self.inside.latches; pairs = c.self.inside.pairs.keys }) c.args.pair place
+    (subst (λ graph. slice_get graph.pairs place ≡ Some c.args.pair) (sym c.self.view_is) at)) ∙ c.in-Err.ensures.absent))

@@ -6,4 +6,4 @@ use Rattle.cell_netlist.proofs.sound_nets.SoundNet.adopt.Goals as goal
 
 pub invariant_of-result : goal.invariant_of-result
 invariant_of-result c = rw (c.in-Ok.ensures, c.in-Ok-reader_table.ensures)
-    (tables-of c.args.net (drivers_of.Input (numbered 0)) (readers_of.Output (numbered 0)) c.requires)
+    (c.requires, tables-of c.args.net (drivers_of.Input (numbered 0)) (readers_of.Output (numbered 0)) c.requires.wired)

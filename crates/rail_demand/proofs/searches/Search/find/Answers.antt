@@ -1,8 +1,8 @@
 use Rattle.std.proofs.Common.{◌<◌, sym, subst, ◌∙◌, arith, rules}
 use Rattle.rail_demand.specs.Demands.{nodes_in}
 use Rattle.rail_demand.specs.Searching.{Stage, HasRoom}
-use Rattle.rail_demand.proofs.Bits.{one_left_less}
-use Rattle.rail_demand.proofs.Finding.{finds_room}
+use Rattle.rail_demand.proofs.DemandBits.{one_left_less}
+use Rattle.rail_demand.proofs.FoundRails.{finds_room}
 use Rattle.rail_demand.proofs.searches.Search.find.Goals as goal
 
 pub push_reserved-requires : goal.push_reserved-requires

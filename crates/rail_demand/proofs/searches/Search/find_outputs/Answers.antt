@@ -1,6 +1,6 @@
 use Rattle.std.proofs.Common.{arith}
-use Rattle.rail_demand.proofs.Expanding.{asks_outputs}
-use Rattle.rail_demand.proofs.Ending.{outputs_more}
+use Rattle.rail_demand.proofs.ExpandedRails.{asks_outputs}
+use Rattle.rail_demand.proofs.ClosedRails.{outputs_more}
 use Rattle.rail_demand.proofs.searches.Search.find_outputs.Goals as goal
 
 pub find_asked-requires-clause-room : goal.find_asked-requires-clause-room
@@ -12,9 +12,11 @@ find_asked-requires-clause-inside c =
 
 pub loop-port-preserved : goal.loop-port-preserved
 loop-port-preserved c =
-    let asks = asks_outputs c.args.built.now c.args.ask c.loop-port.port c.output.result c.loop-port.self c.find_asked.new.self c.loop-port.invariant.stage c.output.ensures.literal c.output.ensures.within c.find_asked.ensures in
+    let asks = asks_outputs c.args.built.now c.args.ask c.loop-port.port c.output.result c.loop-port.self c.find_asked.new.self c.loop-port.invariant.stage
+    c.output.ensures.literal c.output.ensures.within c.find_asked.ensures in
     record {
       stage = asks.steps.stage;
-      outputs = outputs_more c.args.built.now c.args.ask c.loop-port.self c.find_asked.new.self c.loop-port.port c.output.result c.output.ensures.literal asks.steps asks.found c.loop-port.invariant.outputs;
+      outputs = outputs_more c.args.built.now c.args.ask c.loop-port.self c.find_asked.new.self c.loop-port.port c.output.result c.output.ensures.literal asks.steps
+          asks.found c.loop-port.invariant.outputs;
       needed = λ all. asks.needed (c.loop-port.invariant.needed all);
     }

@@ -1,6 +1,6 @@
 use Rattle.std.proofs.Common.{◌<◌, length, arith}
-use Rattle.rail_demand.proofs.Finding.{steps_then}
-use Rattle.rail_demand.proofs.Ending.{longer, closed_more}
+use Rattle.rail_demand.proofs.FoundRails.{steps_then}
+use Rattle.rail_demand.proofs.ClosedRails.{longer, closed_more}
 use Rattle.rail_demand.proofs.searches.Search.spread.Goals as goal
 
 pub expand-requires-clause-inside : goal.expand-requires-clause-inside
@@ -12,7 +12,8 @@ loop-done-preserved c =
     record {
       low = omega (arith, low, longer c.args.built.now c.loop-done.self c.expand.new.self c.expand.ensures.steps);
       steps = steps_then c.args.built.now c.args.self.now c.loop-done.self c.expand.new.self c.loop-done.invariant.steps c.expand.ensures.steps;
-      closed = closed_more c.args.built.now c.loop-done.self c.expand.new.self c.loop-done.done c.at-rail.result low c.at-rail.ensures c.expand.ensures.steps c.expand.ensures.closed c.loop-done.invariant.closed;
+      closed = closed_more c.args.built.now c.loop-done.self c.expand.new.self c.loop-done.done c.at-rail.result low c.at-rail.ensures c.expand.ensures.steps
+          c.expand.ensures.closed c.loop-done.invariant.closed;
       needed = λ ask all. c.expand.ensures.needed ask (c.loop-done.invariant.needed ask all c.loop-done.done c.at-rail.result c.at-rail.ensures) (c.loop-done.invariant.needed ask all);
     }
 

@@ -1,7 +1,7 @@
 use Rattle.std.proofs.Common.{◌∙◌, subst, arith}
-use Rattle.source_machine.specs.Members.{IsIn}
+use Rattle.pulse_ids.specs.Lists.{IsIn}
 use Rattle.source_machine.specs.Machines.{machine_of}
-use Rattle.source_machine.proofs.Accepting.{driven_fit}
+use Rattle.source_machine.proofs.CallerLemmasOnRanges.{driven_fit}
 use Rattle.source_machine.proofs.machines.RawMachine.double_driver.Goals as goal
 
 pub first_twice-requires-clause-fit : goal.first_twice-requires-clause-fit

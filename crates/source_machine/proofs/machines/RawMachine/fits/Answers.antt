@@ -1,6 +1,6 @@
 use Rattle.std.proofs.Common.{IsTrue}
 use Rattle.source_machine.specs.Machines.{literal_of}
-use Rattle.source_machine.proofs.Mapped.{nets_fit_of_raw, raw_nets_fit, names_mapped, names_from_mapped}
+use Rattle.source_machine.proofs.PlainLists.{nets_fit_of_raw, raw_nets_fit, names_mapped, names_from_mapped}
 use Rattle.source_machine.proofs.machines.RawMachine.fits.Goals as goal
 use Rattle.source_machine.proofs.machines.RawMachine.fits.Goals.{then-nets_fit, else-nets_fit}
 
@@ -24,7 +24,10 @@ returns-else-names_fit c =
     elim c.if-nets_fit.branch [
       | then-nets_fit w ↦ (
         λ t. cc,
-        λ h. let e = w.names_fit.ensures.1 (names_from_mapped (λ net. net.number) c.args.self.now.inputs.items c.args.self.now.input_names.items h.input_names_fit, names_from_mapped literal_of c.args.self.now.outputs.items c.args.self.now.output_names.items h.output_names_fit) in cc,
+        λ h. let e = w.names_fit.ensures.1 (
+          names_from_mapped (λ net. net.number) c.args.self.now.inputs.items c.args.self.now.input_names.items h.input_names_fit,
+          names_from_mapped literal_of c.args.self.now.outputs.items c.args.self.now.output_names.items h.output_names_fit,
+        ) in cc,
       )
       | else-nets_fit w ↦ (λ t. cc, λ h. let e = c.nets_fit.ensures.1 (raw_nets_fit c.args.self.now h.nets_fit) in cc)
     ]

@@ -1,5 +1,5 @@
 use Rattle.std.proofs.Common.{arith}
-use Rattle.source_machine.proofs.Mapped.{equations_done}
+use Rattle.source_machine.proofs.PlainLists.{equations_done}
 use Rattle.source_machine.proofs.machines.RawMachine.size.Goals as goal
 
 pub returns : goal.returns

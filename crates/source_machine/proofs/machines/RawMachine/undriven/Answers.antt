@@ -1,11 +1,12 @@
 use Rattle.std.proofs.Common.{◌∙◌, inl, inr, subst, arith}
-use Rattle.source_machine.specs.Members.{IsIn}
+use Rattle.pulse_ids.specs.Lists.{IsIn}
+use Rattle.pulse_ids.proofs.CallerLemmas.{IsIn-behind}
 use Rattle.source_machine.specs.Machines.{machine_of}
 use Rattle.source_machine.specs.Runs.{driven_nets}
 use Rattle.source_machine.specs.Grounding.{used_nets}
-use Rattle.source_machine.specs.Searching.{IsFirstMissing}
-use Rattle.source_machine.proofs.Searches.{IsIn-behind}
-use Rattle.source_machine.proofs.Accepting.{driven_fit, used_fit, undriven_is}
+use Rattle.source_machine.specs.LowestNets.{IsFirstMissing}
+use Rattle.source_machine.proofs.CallerLemmasOnRanges.{driven_fit, used_fit}
+use Rattle.source_machine.proofs.FaultyNets.{undriven_is}
 use Rattle.source_machine.proofs.machines.RawMachine.undriven.Goals as goal
 
 pub first_missing-requires-clause-nets_fit : goal.first_missing-requires-clause-nets_fit

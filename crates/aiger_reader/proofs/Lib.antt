@@ -1,0 +1,25 @@
+-- The proofs of the AIGER reader.
+pub mod Forms
+pub mod Ends
+pub mod Groups
+pub mod Numbering
+pub mod Inputs
+pub mod Allowed
+pub mod Places
+pub mod Growing
+pub mod Named
+pub mod Steps
+pub mod Bounding
+pub mod PartLemmas
+pub mod SectionParts
+pub mod SectionSteps
+pub mod Judging
+pub mod Complete
+pub mod Limits
+pub mod Early
+pub mod Judgements
+pub mod Standing
+pub mod PlainLines
+pub mod Cuts
+pub mod Tracking
+pub mod Taking

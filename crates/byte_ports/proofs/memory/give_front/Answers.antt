@@ -1,6 +1,0 @@
--- What was copied is the front of the rest.
-use Rattle.byte_ports.proofs.Pieces.{rest_splits}
-use Rattle.byte_ports.proofs.memory.give_front.Goals as goal
-
-pub returns-clause-consumed : goal.returns-clause-consumed
-returns-clause-consumed c = rest_splits _ _ _ _ c.copy_front.ensures.front

@@ -1,0 +1,10 @@
+-- The lemmas on wires, decisions and computed runs that the crates above may cite.
+pub use Rattle.cell_netlist.proofs.ComputedRuns.{phases, play, played, settles}
+pub use Rattle.cell_netlist.proofs.FeedLemmas.{leaves_rest}
+pub use Rattle.cell_netlist.proofs.MoreLines.{chain-stays, cells_add, input_adds, output_adds}
+pub use Rattle.cell_netlist.proofs.PlacesOfWires.{driver-is, reader-is, driver-only, reader-only, out-driver, read-reader}
+pub use Rattle.cell_netlist.proofs.Refusals.{first_refusal, grounded-known}
+pub use Rattle.cell_netlist.proofs.Roots.{root_unique, Splits-out}
+pub use Rattle.cell_netlist.proofs.SoundDecisions.{is_sound-at, SplittersBelow-one_more}
+pub use Rattle.cell_netlist.proofs.WireBounds.{wire_bound-append, wire_below, occurrences-past, number_of_wires-parts, number_of_wires-input, number_of_wires-output, number_of_wires-cell, number_of_wires-fed, driven_within, read_within}
+pub use Rattle.cell_netlist.proofs.WireLemmas.{named_below, driven_once, read_once, driving_cell-is, reading_cell-is, wire_grounded, wire_root}

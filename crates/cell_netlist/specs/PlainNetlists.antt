@@ -1,0 +1,77 @@
+-- A netlist as plain lists, the wires that its lines drive and read, and how many wires it has.
+use Rattle.std.specs.Prelude.{◌+◌, ℕ, max, Option, Some, None, List, [], ◌∷◌, ◌++◌, map}
+use Rattle.std.specs.List.{flat_map}
+use Rattle.pulse_ids.specs.Ids.{WireId}
+use Rattle.cell_netlist.specs.declared.lines.Rail.{Rail}
+use Rattle.cell_netlist.specs.declared.lines.Cell.{Cell}
+use Rattle.cell_netlist.specs.declared.lines.Cell.TheVariants.{La, Fa, Split, Droc}
+
+-- the numbers of ports, the lines in order, and the named ports of each side with their names
+pub record PlainNetlist : Type 0 where
+  pub inputs : ℕ
+  pub outputs : ℕ
+  pub input_rails : List Rail
+  pub cells : List Cell
+  pub output_rails : List Rail
+  pub input_names : List (ℕ × List ℕ)
+  pub output_names : List (ℕ × List ℕ)
+
+-- a netlist of these parts
+abbrev pub netlist_of : ℕ → ℕ → List Rail → List Cell → List Rail → List (ℕ × List ℕ) → List (ℕ × List ℕ) → PlainNetlist
+netlist_of inputs outputs input_rails cells output_rails input_names output_names = record {
+  inputs = inputs;
+  outputs = outputs;
+  input_rails = input_rails;
+  cells = cells;
+  output_rails = output_rails;
+  input_names = input_names;
+  output_names = output_names;
+}
+
+-- a netlist of these ports and no lines
+abbrev pub empty_netlist : ℕ → ℕ → PlainNetlist
+empty_netlist inputs outputs = netlist_of inputs outputs [] [] [] [] []
+
+-- the wire of a rail
+abbrev pub wire_of : Rail → ℕ
+wire_of rail = rail.wire.number
+
+-- the wire of an output that may be unused
+abbrev pub used : Option WireId → List ℕ
+used None = []
+used (Some wire) = wire.number ∷ []
+
+-- the wires that a cell drives
+abbrev pub outs : Cell → List ℕ
+outs (La a b out) = out.number ∷ []
+outs (Fa a b out) = out.number ∷ []
+outs (Split from left right) = left.number ∷ right.number ∷ []
+outs (Droc role preload feed q n) = used q ++ used n
+
+-- the wires that a cell reads
+abbrev pub reads : Cell → List ℕ
+reads (La a b out) = a.number ∷ b.number ∷ []
+reads (Fa a b out) = a.number ∷ b.number ∷ []
+reads (Split from left right) = from.number ∷ []
+reads (Droc role preload feed q n) = feed.number ∷ []
+
+-- the wires that the netlist's lines drive, each as often as it is driven
+abbrev pub driven : PlainNetlist → List ℕ
+driven net = map wire_of net.input_rails ++ flat_map outs net.cells
+
+-- the wires that the netlist's lines read, each as often as it is read
+abbrev pub read : PlainNetlist → List ℕ
+read net = flat_map reads net.cells ++ map wire_of net.output_rails
+
+-- one more than the greatest of the numbers, and 0 where there is none
+abbrev pub wire_bound : List ℕ → ℕ
+wire_bound [] = 0
+wire_bound (w ∷ ws) = max (w + 1) (wire_bound ws)
+
+-- one more than the greatest wire number that stands in the netlist
+abbrev pub number_of_wires : PlainNetlist → ℕ
+number_of_wires net = wire_bound (driven net ++ read net)
+
+-- one more than the greatest wire number that stands in a cell
+abbrev pub cell_bound : Cell → ℕ
+cell_bound cell = wire_bound (outs cell ++ reads cell)

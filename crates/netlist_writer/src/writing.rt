@@ -1,0 +1,84 @@
+//! The sections of a netlist's text, and the text.
+
+ghost use Rattle.std.specs.Prelude.{IsFalse, OnOk};
+ghost use Rattle.std.specs.List.{flat_map};
+ghost use Rattle.byte_ports.specs.Writing.{WritesText};
+ghost use Rattle.cell_netlist.specs.Text.{text_of};
+ghost use Rattle.netlist_writer.specs.Texts.{cell_line, circuit_text, head_text, name_line, names_text, rail_line};
+
+use crate::lines::{write_cell, write_line, write_name, write_rail};
+use crate::words::Word;
+use byte_ports::{Failed, Sink};
+use cell_netlist::{Cell, Netlist, Rail};
+use pulse_ids::Name;
+
+fn write_rails<K: Sink>(out: &mut K, side: &[u8], rails: &[Rail]) -> Result<(), Failed>
+    ensures { WritesText (K.taken out.old) (K.taken out.new) (K.faults out.old) (K.faults out.new) result (flat_map (rail_line side.now) rails.now) }
+{
+    for rail in rails {
+        write_rail(out, side, *rail)?;
+    }
+    Ok(())
+}
+
+fn write_cells<K: Sink>(out: &mut K, cells: &[Cell]) -> Result<(), Failed>
+    ensures { WritesText (K.taken out.old) (K.taken out.new) (K.faults out.old) (K.faults out.new) result (flat_map cell_line cells.now) }
+{
+    for cell in cells {
+        write_cell(out, *cell)?;
+    }
+    Ok(())
+}
+
+fn write_names<K: Sink>(out: &mut K, side: &[u8], names: &[(u32, Name)]) -> Result<(), Failed>
+    ensures { WritesText (K.taken out.old) (K.taken out.new) (K.faults out.old) (K.faults out.new) result (flat_map (name_line side.now) names.now) }
+{
+    for named in names {
+        write_name(out, side, named)?;
+    }
+    Ok(())
+}
+
+/// The first two lines.
+fn write_head<K: Sink>(net: &Netlist, out: &mut K) -> Result<(), Failed>
+    ensures { WritesText (K.taken out.old) (K.taken out.new) (K.faults out.old) (K.faults out.new) result (head_text net.now) }
+{
+    write_line(out, b"xsfq", &[Word::Text(b"1")])?;
+    write_line(
+        out,
+        b"ports",
+        &[Word::Number(net.inputs()), Word::Number(net.outputs())],
+    )
+}
+
+/// The lines of rails and cells.
+fn write_circuit<K: Sink>(net: &Netlist, out: &mut K) -> Result<(), Failed>
+    ensures { WritesText (K.taken out.old) (K.taken out.new) (K.faults out.old) (K.faults out.new) result (circuit_text net.now) }
+{
+    write_rails(out, b"input", net.input_rails().items())?;
+    write_cells(out, net.cells().items())?;
+    write_rails(out, b"output", net.output_rails().items())
+}
+
+/// The lines of names.
+fn write_both_names<K: Sink>(net: &Netlist, out: &mut K) -> Result<(), Failed>
+    ensures { WritesText (K.taken out.old) (K.taken out.new) (K.faults out.old) (K.faults out.new) result (names_text net.now) }
+{
+    write_names(out, b"iname", net.input_names())?;
+    write_names(out, b"oname", net.output_names())
+}
+
+/// Writes the one text of a netlist: its ports, input rails, cells, output rails and names, and its last line.
+/// It takes no memory. Each word and each space is a piece of its own, so a slow sink is best buffered. The sink
+/// isn't flushed.
+///
+/// Errors: `Failed` only where the sink's count of faults rose. Then a prefix of the text was taken.
+pub fn write_netlist<K: Sink>(net: &Netlist, out: &mut K) -> Result<(), Failed>
+    ensures written { WritesText (K.taken out.old) (K.taken out.new) (K.faults out.old) (K.faults out.new) result (text_of net.now) }
+    ensures unflushed { OnOk result (IsFalse (K.flushed out.new)) }
+{
+    write_head(net, out)?;
+    write_circuit(net, out)?;
+    write_both_names(net, out)?;
+    write_line(out, b"end", &[])
+}

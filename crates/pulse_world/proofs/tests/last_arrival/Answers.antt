@@ -1,7 +1,0 @@
-use Rattle.std.proofs.Common.{refl}
-use Rattle.pulse_world.proofs.tests.last_arrival.Goals as goal
-
-pub returns-clause-sound : goal.returns-clause-sound
-returns-clause-sound c =
-    rw (c.in_ok-add_output.ensures.added, c.in_ok-add_cell.ensures.added, c.in_ok-add_input-2.ensures.added, c.in_ok-add_input.ensures.added, c.new-net.ensures, c.rail.ensures, c.rail-2.ensures, c.rail-3.ensures, c.wire.ensures, c.wire-2.ensures, c.wire-3.ensures)
-    (c.sound_tests.ensures.sound _ refl)

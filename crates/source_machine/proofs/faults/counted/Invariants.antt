@@ -1,7 +1,0 @@
-use Rattle.std.proofs.Common.{take}
-use Rattle.source_machine.specs.Searching.{Counts}
-use Rattle.source_machine.proofs.faults.counted.Given as goal
-
--- the nets so far are counted
-abbrev pub invariant-loop-net : goal.invariant-loop-net
-invariant-loop-net l = Counts l.count (take l.net-index l.nets) l.counts.items

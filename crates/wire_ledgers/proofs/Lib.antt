@@ -1,0 +1,4 @@
+pub mod CallerLemmasOnRanges
+pub mod CallerLemmas
+pub mod CallerLemmasOnDrocs
+pub mod CallerLemmasOnEnds

@@ -1,0 +1,5 @@
+-- The definitions of lines, words, decimals, and of reading line by line.
+pub mod Lines
+pub mod Decimals
+pub mod Words
+pub mod Reading

@@ -1,9 +1,0 @@
-use Rattle.std.proofs.Common.{arith}
-use Rattle.xsfq_cli.specs.Writing.{rail_line}
-use Rattle.xsfq_cli.proofs.TextsWritten.{wrote_up_to, err_so}
-use Rattle.xsfq_cli.proofs.writing.write_rails.Goals as goal
-
-pub returns-in_err-write_rail : goal.returns-in_err-write_rail
-returns-in_err-write_rail g c =
-    wrote_up_to (rail_line c.args.side.now) c.args.rails.now c.loop-rail.rail-index _ _ _ _ _ _ _ _ _ (omega arith) c.loop-rail.invariant.written c.loop-rail.invariant.calm
-    (err_so c.in_err-write_rail.was) c.from_residual.ensures.0 c.write_rail.ensures

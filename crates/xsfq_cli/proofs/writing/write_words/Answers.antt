@@ -1,9 +1,0 @@
-use Rattle.std.proofs.Common.{arith}
-use Rattle.xsfq_cli.specs.Writing.{spaced}
-use Rattle.xsfq_cli.proofs.TextsWritten.{wrote_up_to, err_so}
-use Rattle.xsfq_cli.proofs.writing.write_words.Goals as goal
-
-pub returns-in_err-write_spaced : goal.returns-in_err-write_spaced
-returns-in_err-write_spaced g c =
-    wrote_up_to spaced c.args.words.now c.loop-word.word-index _ _ _ _ _ _ _ _ _ (omega arith) c.loop-word.invariant.written c.loop-word.invariant.calm
-    (err_so c.in_err-write_spaced.was) c.from_residual.ensures.0 c.write_spaced.ensures

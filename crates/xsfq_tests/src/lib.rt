@@ -1,0 +1,15 @@
+//! The tests of the base, the writer and the commands: cases as tables, one test a table. Outside tests there is no code here.
+#![tactic(auto)]
+
+#[cfg(test)]
+mod commands;
+#[cfg(test)]
+mod netlists;
+#[cfg(test)]
+mod numbers;
+#[cfg(test)]
+mod orders;
+#[cfg(test)]
+mod ports;
+#[cfg(test)]
+mod texts;

@@ -5,7 +5,7 @@ use pulse_ids::{Ident, Lit, Name, NoMemory};
 use source_machine::{Machine, Place, RawMachine, Unset};
 use std::alloc::Global;
 use std::test::Fail;
-use word_scan::{decimal, plain_decimal};
+use word_scan::decimal;
 
 /// A verdict: the place by its kind and number, and the cause by a letter and its number.
 type Told = (char, u32, char, u32);
@@ -285,24 +285,5 @@ fn a_refusal_is_told_early_and_again(rt: HostRuntime) -> Result<(), Fail> {
     assert_eq!(rt; again, first);
     let last = reader.finish().err().map(|refusal| refusal_told(&refusal));
     assert_eq!(rt; last, first);
-    Ok(())
-}
-
-#[test]
-fn decimals_are_read(rt: HostRuntime) -> Result<(), Fail> {
-    let cases: [(&[u8], Option<u32>, Option<u32>); 8] = [
-        (b"", None, None),
-        (b"0", Some(0), Some(0)),
-        (b"07", Some(7), None),
-        (b"000000000000", Some(0), None),
-        (b"4294967295", Some(u32::MAX), Some(u32::MAX)),
-        (b"4294967296", None, None),
-        (b"1a", None, None),
-        (b"-1", None, None),
-    ];
-    for (text, lenient, plain) in cases {
-        assert_eq!(rt; decimal(text), lenient);
-        assert_eq!(rt; plain_decimal(text), plain);
-    }
     Ok(())
 }

@@ -1,7 +1,9 @@
 -- The lemmas on wires, decisions and computed runs that the crates above may cite.
 pub use Rattle.cell_netlist.proofs.ComputedRuns.{phases, play, played, settles}
+pub use Rattle.cell_netlist.proofs.ExampleRefusals.{looped_breaks, clear_pair_breaks}
 pub use Rattle.cell_netlist.proofs.FeedLemmas.{leaves_rest}
 pub use Rattle.cell_netlist.proofs.MoreLines.{chain-stays, cells_add, input_adds, output_adds}
+pub use Rattle.cell_netlist.proofs.NetlistTexts.{text_spread}
 pub use Rattle.cell_netlist.proofs.PlacesOfWires.{driver-is, reader-is, driver-only, reader-only, out-driver, read-reader}
 pub use Rattle.cell_netlist.proofs.Refusals.{first_refusal, grounded-known}
 pub use Rattle.cell_netlist.proofs.Roots.{root_unique, Splits-out}

@@ -6,16 +6,7 @@ use Rattle.cell_netlist.specs.RailEquations.{LatchState, CellEquation, IsRails, 
 use Rattle.cell_netlist.specs.ExampleNetlists.{toggle}
 use Rattle.cell_netlist.specs.ExampleRuns.{two_empty, ToggleBits}
 use Rattle.cell_netlist.specs.ExampleTexts.{TextsAreThese}
-
--- each item of a list has P
-abbrev Each : {X : Type 0} → (X → Type 0) → List X → Type 0
-Each P [] = Unit
-Each P (x ∷ xs) = P x × Each P xs
-
-each-at : {X : Type 0} (P : X → Type 0) (xs : List X) → Each P xs → (x : X) → IsIn x xs → P x
-each-at P [] all x h = absurd h
-each-at P (y ∷ xs) all x (inl same) = subst P same all.0
-each-at P (y ∷ xs) all x (inr h) = each-at P xs all.1 x h
+use Rattle.cell_netlist.proofs.CallerLemmasOnLists.{Each, each-at}
 
 -- bits that meet the equations of the toggle
 toggle_rails : (state : LatchState) (bits : List Bool) → length bits ≡ 5 → Each (CellEquation state (bit_at bits)) toggle.cells → IsRails toggle state [] bits

@@ -28,6 +28,7 @@ pub mod CallerLemmasOnSums
 pub mod CallerLemmasOnDrivers
 pub mod CallerLemmasOnLinks
 pub mod CallerLemmasOnRuns
+pub mod CallerLemmasOnLists
 pub mod RunExistence
 pub mod RunAgreement
 pub mod CallerLemmas

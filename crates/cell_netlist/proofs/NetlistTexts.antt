@@ -67,25 +67,25 @@ flat_map-map f g [] = refl
 flat_map-map f g (x ∷ xs) = ap (λ zs. f (g x) ++ zs) (flat_map-map f g xs)
 
 -- the parts of a text, from the sections on
-abbrev from_end : List ℕ → List ℕ
+abbrev pub from_end : List ℕ → List ℕ
 from_end rest = line_of (codes "end" ∷ []) ++ rest
 
-abbrev from_output_names : PlainNetlist → List ℕ → List ℕ
+abbrev pub from_output_names : PlainNetlist → List ℕ → List ℕ
 from_output_names net rest = flat_map (λ x. line_of (name_words (codes "oname") x)) net.output_names ++ from_end rest
 
-abbrev from_input_names : PlainNetlist → List ℕ → List ℕ
+abbrev pub from_input_names : PlainNetlist → List ℕ → List ℕ
 from_input_names net rest = flat_map (λ x. line_of (name_words (codes "iname") x)) net.input_names ++ from_output_names net rest
 
-abbrev from_output_rails : PlainNetlist → List ℕ → List ℕ
+abbrev pub from_output_rails : PlainNetlist → List ℕ → List ℕ
 from_output_rails net rest = flat_map (λ x. line_of (rail_words (codes "output") x)) net.output_rails ++ from_input_names net rest
 
-abbrev from_cells : PlainNetlist → List ℕ → List ℕ
+abbrev pub from_cells : PlainNetlist → List ℕ → List ℕ
 from_cells net rest = flat_map (λ x. line_of (cell_words x)) net.cells ++ from_output_rails net rest
 
-abbrev from_input_rails : PlainNetlist → List ℕ → List ℕ
+abbrev pub from_input_rails : PlainNetlist → List ℕ → List ℕ
 from_input_rails net rest = flat_map (λ x. line_of (rail_words (codes "input") x)) net.input_rails ++ from_cells net rest
 
-abbrev ports_line : PlainNetlist → List ℕ
+abbrev pub ports_line : PlainNetlist → List ℕ
 ports_line net = line_of (codes "ports" ∷ decimal net.inputs ∷ decimal net.outputs ∷ [])
 
 spread : {X : Type 0} (f : X → List ℕ) (p q last : X) (b c d e g : List X) (rest : List ℕ)
@@ -93,7 +93,8 @@ spread : {X : Type 0} (f : X → List ℕ) (p q last : X) (b c d e g : List X) (
     ≡ f p ++ (f q ++ (flat_map f b ++ (flat_map f c ++ (flat_map f d ++ (flat_map f e ++ (flat_map f g ++ (f last ++ rest)))))))
 spread f p q last b c d e g rest = simp (flat_map-append, append_assoc, append-nil)
 
-text_spread : (net : PlainNetlist) (rest : List ℕ) → text_of net ++ rest ≡ line_of (codes "xsfq" ∷ codes "1" ∷ []) ++ (ports_line net ++ from_input_rails net rest)
+-- a netlist's text and more bytes, line by line and section by section
+pub text_spread : (net : PlainNetlist) (rest : List ℕ) → text_of net ++ rest ≡ line_of (codes "xsfq" ∷ codes "1" ∷ []) ++ (ports_line net ++ from_input_rails net rest)
 text_spread net rest =
     spread line_of (codes "xsfq" ∷ codes "1" ∷ []) (codes "ports" ∷ decimal net.inputs ∷ decimal net.outputs ∷ []) (codes "end" ∷ [])
     (map (rail_words (codes "input")) net.input_rails)

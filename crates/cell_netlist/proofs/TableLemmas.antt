@@ -14,16 +14,9 @@ use Rattle.cell_netlist.specs.Netlists.{PlainNetlist, wire_of, wire_bound, numbe
 use Rattle.cell_netlist.specs.Places.{At, cell_places, rail_places, on_wire, driving_places, reading_places}
 use Rattle.cell_netlist.specs.PlaceTables.{written, HasPlaceTables}
 use Rattle.cell_netlist.specs.Wired.{IsWired}
+use Rattle.cell_netlist.proofs.CallerLemmasOnLists.{drop-at, set-length, set-same, set-other}
 use Rattle.cell_netlist.proofs.WireBounds.{wire_bound-append}
 use Rattle.cell_netlist.proofs.PlaceLemmas.{drivers-count, readers-count}
-
--- what stands at a place of a list, and all behind it
-pub drop-at : {X : Type 0} (xs : List X) (i : ℕ) (x : X) → slice_get xs i ≡ Some x → drop i xs ≡ x ∷ drop (i + 1) xs
-drop-at [] zero x e = absurd cc
-drop-at [] (suc i) x e = absurd cc
-drop-at (y ∷ xs) zero x e = let same : y ≡ x = cc in ap (λ z. z ∷ xs) same
-drop-at (y ∷ xs) (suc i) x e =
-    let next : suc (i + 1) ≡ suc i + 1 = omega arith in subst (λ k. drop i xs ≡ x ∷ drop k (y ∷ xs)) next (drop-at xs i x e)
 
 -- the identifier of a number
 pub numbered-is : {K : Type 0} (id : Id K) (n : ℕ) → id.number ≡ n → id ≡ numbered n
@@ -33,25 +26,6 @@ module _ {Place : Type 0} where
   pub written-append : (xs ys : List (At Place)) (table : List Place) → written (xs ++ ys) table ≡ written ys (written xs table)
   written-append [] ys table = refl
   written-append (at ∷ xs) ys table = written-append xs ys (slice_set table at.0 at.1)
-
-  pub set-length : (table : List Place) (i : ℕ) (x : Place) → length (slice_set table i x) ≡ length table
-  set-length [] zero x = refl
-  set-length [] (suc i) x = refl
-  set-length (y ∷ table) zero x = refl
-  set-length (y ∷ table) (suc i) x = ap (λ n. suc n) (set-length table i x)
-
-  set-same : (table : List Place) (i : ℕ) (x : Place) → i < length table → slice_get (slice_set table i x) i ≡ Some x
-  set-same [] i x lt = absurd (omega arith)
-  set-same (y ∷ table) zero x lt = refl
-  set-same (y ∷ table) (suc i) x lt = set-same table i x (omega arith)
-
-  set-other : (table : List Place) (i j : ℕ) (x : Place) → (j ≡ i → ⊥) → slice_get (slice_set table i x) j ≡ slice_get table j
-  set-other [] zero j x ne = refl
-  set-other [] (suc i) j x ne = refl
-  set-other (y ∷ table) zero zero x ne = absurd (ne refl)
-  set-other (y ∷ table) zero (suc j) x ne = refl
-  set-other (y ∷ table) (suc i) zero x ne = refl
-  set-other (y ∷ table) (suc i) (suc j) x ne = set-other table i j x (λ e. ne (ap (λ n. suc n) e))
 
   pub written-length : (places : List (At Place)) (table : List Place) → length (written places table) ≡ length table
   written-length [] table = refl

@@ -62,3 +62,7 @@ constant_one = plain 0 1 [] (droc Const true 1 (on 0) (on 1) ∷ []) (rail 0 Pos
 -- two positive rails on the wires 0 and 1
 abbrev pub two_rails : List Rail
 two_rails = rail 0 Pos 0 ∷ rail 1 Pos 1 ∷ []
+
+-- an LA that reads its own output, and so never emits
+abbrev pub looped : PlainNetlist
+looped = plain 1 1 (rail 0 Pos 0 ∷ []) (split 0 2 3 ∷ la 2 1 1 ∷ []) (rail 0 Pos 3 ∷ [])

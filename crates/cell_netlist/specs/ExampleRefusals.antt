@@ -9,7 +9,7 @@ use Rattle.cell_netlist.specs.declared.unsound.Unsound.TheVariants.{WireUndriven
 use Rattle.cell_netlist.specs.Netlists.{PlainNetlist}
 use Rattle.cell_netlist.specs.Sound.{IsFirstUnsound, rule_of}
 use Rattle.cell_netlist.specs.Decisions.{is_all_driven, is_none_driven_twice, is_all_read, is_none_read_twice, are_ports_below, is_no_rail_twice, is_all_grounded, is_all_fitting, is_all_complement}
-use Rattle.cell_netlist.specs.ExampleNetlists.{droc, la, on, plain, rail, split, two_rails, unused}
+use Rattle.cell_netlist.specs.ExampleNetlists.{droc, la, looped, on, plain, rail, split, two_rails, unused}
 
 -- the decisions in the order of the rules
 abbrev pub results : PlainNetlist → List Bool
@@ -32,7 +32,7 @@ RulesAreRefused =
     × BreaksAlone (plain 1 2 two_rails [] two_rails) (PortRange (Input (numbered 1)))
     × BreaksAlone (plain 2 1 two_rails [] two_rails) (PortRange (Output (numbered 1)))
     × BreaksAlone (plain 1 2 (rail 0 Pos 0 ∷ rail 0 Pos 1 ∷ []) [] two_rails) (RailTwice (numbered 1))
-    × BreaksAlone (plain 1 1 (rail 0 Pos 0 ∷ []) (split 0 2 3 ∷ la 2 1 1 ∷ []) (rail 0 Pos 3 ∷ [])) (Loop (numbered 1))
+    × BreaksAlone looped (Loop (numbered 1))
     × BreaksAlone (plain 0 0 [] (droc Back false 0 (on 0) unused ∷ []) []) (LooseDroc (numbered 0))
     × BreaksAlone (plain 1 1 (rail 0 Pos 0 ∷ []) (droc Front true 0 (on 1) unused ∷ []) (rail 0 Pos 1 ∷ [])) (LooseDroc (numbered 0))
     × BreaksAlone (plain 1 1 (rail 0 Pos 0 ∷ []) (droc Const true 0 (on 1) unused ∷ []) (rail 0 Pos 1 ∷ [])) (LooseDroc (numbered 0))

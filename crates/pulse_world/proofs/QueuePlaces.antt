@@ -9,29 +9,11 @@ use Rattle.pulse_ids.specs.Lists.{occurrences}
 use Rattle.std.proofs.lemmas.Bool.{cases_eq, cases_lt}
 use Rattle.pulse_ids.proofs.CallerLemmas.{IsIn-place, place_of}
 use Rattle.pulse_ids.proofs.CallerLemmasOnCounts.{test_same, test_other, occurrences-IsIn, IsIn-occurrences}
+use Rattle.cell_netlist.proofs.CallerLemmasOnLists.{set-length, set-same, set-other}
 use Rattle.pulse_world.specs.PendingQueues.{PlainQueue, number_in, queue_of, ArePlaced, IsQueueOf}
 use Rattle.pulse_world.proofs.Counts.{few}
 
 module _ {X : Type 0} where
-  pub set-length : (xs : List X) (i : ℕ) (x : X) → length (slice_set xs i x) ≡ length xs
-  set-length [] zero x = refl
-  set-length [] (suc i) x = refl
-  set-length (y ∷ xs) zero x = refl
-  set-length (y ∷ xs) (suc i) x = ap (λ n. suc n) (set-length xs i x)
-
-  pub set-same : (xs : List X) (i : ℕ) (x : X) → i < length xs → slice_get (slice_set xs i x) i ≡ Some x
-  set-same [] i x lt = absurd (omega arith)
-  set-same (y ∷ xs) zero x lt = refl
-  set-same (y ∷ xs) (suc i) x lt = set-same xs i x (omega arith)
-
-  pub set-other : (xs : List X) (i j : ℕ) (x : X) → j ≢ i → slice_get (slice_set xs i x) j ≡ slice_get xs j
-  set-other [] zero j x ne = refl
-  set-other [] (suc i) j x ne = refl
-  set-other (y ∷ xs) zero zero x ne = absurd (ne refl)
-  set-other (y ∷ xs) zero (suc j) x ne = refl
-  set-other (y ∷ xs) (suc i) zero x ne = refl
-  set-other (y ∷ xs) (suc i) (suc j) x ne = set-other xs i j x (λ e. ne (ap (λ n. suc n) e))
-
   take-get : (xs : List X) (n p : ℕ) (x : X) → slice_get (take n xs) p ≡ Some x → (p < n) × (slice_get xs p ≡ Some x)
   take-get xs zero zero x e = absurd cc
   take-get xs zero (suc p) x e = absurd cc

@@ -7,15 +7,8 @@ use Rattle.cell_netlist.specs.World.{cleared, clocked, clock_pulses}
 use Rattle.cell_netlist.specs.declared.kinds.CellState.{CellState}
 use Rattle.pulse_ids.proofs.CallerLemmasOnCounts.{occurrences-append, test_same}
 use Rattle.pulse_ids.proofs.CallerLemmas.{IsIn-left, IsIn-right}
+use Rattle.cell_netlist.proofs.CallerLemmasOnLists.{drop-at}
 use Rattle.pulse_world.specs.PendingQueues.{PlainQueue, HasRoomFor}
-
--- what stands at a place of a list, and all behind it
-pub drop-at : {X : Type 0} (xs : List X) (i : ℕ) (x : X) → slice_get xs i ≡ Some x → drop i xs ≡ x ∷ drop (i + 1) xs
-drop-at [] zero x e = absurd cc
-drop-at [] (suc i) x e = absurd cc
-drop-at (y ∷ xs) zero x e = let same : y ≡ x = cc in ap (λ z. z ∷ xs) same
-drop-at (y ∷ xs) (suc i) x e =
-    let next : suc (i + 1) ≡ suc i + 1 = omega arith in subst (λ k. drop i xs ≡ x ∷ drop k (y ∷ xs)) next (drop-at xs i x e)
 
 module _ (queue : PlainQueue) where
   -- one wire can be appended

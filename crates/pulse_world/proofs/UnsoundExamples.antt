@@ -12,26 +12,16 @@ use Rattle.cell_netlist.specs.World.{has_sign, Upset, deliver}
 use Rattle.cell_netlist.specs.Runs.{Moment, IsMoment, Event}
 use Rattle.cell_netlist.specs.RailEquations.{LatchState, CellEquation, IsRails, IsNetRun}
 use Rattle.cell_netlist.specs.Delivery.{Delivers}
-use Rattle.cell_netlist.specs.ExampleNetlists.{la, droc, on, unused}
+use Rattle.cell_netlist.specs.ExampleNetlists.{droc, on, unused, looped}
 use Rattle.cell_netlist.specs.ExampleRefusals.{BreaksAlone}
-use Rattle.cell_netlist.proofs.CallerLemmas.{first_refusal, grounded-known}
-use Rattle.cell_netlist.proofs.CallerLemmas.{phases, play, played, settles}
-use Rattle.pulse_world.specs.NeededRules.{NeedsRule, IsUpsetWithout, undriven, merged, tapped, looped, fed_by_rail, both_clear, RulesAreNeeded}
+use Rattle.cell_netlist.proofs.CallerLemmas.{first_refusal, looped_breaks, clear_pair_breaks, phases, play, played, settles}
+use Rattle.cell_netlist.proofs.CallerLemmasOnLists.{Each, each-at}
+use Rattle.pulse_world.specs.NeededRules.{NeedsRule, IsUpsetWithout, undriven, merged, tapped, fed_by_rail, both_clear, RulesAreNeeded}
 
 -- a moment at which a delivery is an upset leaves no bits to deliver
 no_bits : (net : PlainNetlist) (vectors : List (List Bool)) (moment : Moment) → IsMoment net vectors moment → (wire : ℕ)
     → deliver net moment.state wire ≡ Upset → (bit : ℕ → ℕ → Bool) → Delivers net vectors bit → ⊥
 no_bits net vectors moment reached wire upset bit delivers = delivers.no_upset moment reached wire upset
-
--- each item of a list has P
-abbrev Each : {X : Type 0} → (X → Type 0) → List X → Type 0
-Each P [] = Unit
-Each P (x ∷ xs) = P x × Each P xs
-
-each-at : {X : Type 0} (P : X → Type 0) (xs : List X) → Each P xs → (x : X) → IsIn x xs → P x
-each-at P [] all x h = absurd h
-each-at P (y ∷ xs) all x (inl same) = subst P same all.0
-each-at P (y ∷ xs) all x (inr h) = each-at P xs all.1 x h
 
 -- bits that meet each equation
 rails_of : (net : PlainNetlist) (state : LatchState) (vector bits : List Bool) → length bits ≡ number_of_wires net
@@ -60,19 +50,6 @@ is_upset net vectors broken breaks run meets orders moment e wire upset =
       wire = wire;
       upset = upset;
     }
-
--- the wire 1 is not grounded
-looped_breaks : BreaksAlone looped (Loop (numbered 1))
-looped_breaks = record {
-  first = first_refusal _ _ (la 2 1 1, refl, (λ d. d), 1, inl refl, λ grounded. not_one (grounded-known looped (0 ∷ 2 ∷ 3 ∷ []) refl 1 grounded)) refl;
-  others = refl;
-}
-  where
-    not_one : IsIn {X = ℕ} 1 (0 ∷ 2 ∷ 3 ∷ []) → ⊥
-    not_one (inl e) = absurd (omega arith)
-    not_one (inr (inl e)) = absurd (omega arith)
-    not_one (inr (inr (inl e))) = absurd (omega arith)
-    not_one (inr (inr (inr none))) = none
 
 loop_is_upset : IsUpsetWithout looped ((true ∷ []) ∷ (true ∷ []) ∷ []) (Loop (numbered 1))
 loop_is_upset =
@@ -104,25 +81,11 @@ wrong_feed_is_upset =
     (bits ∷ []) (rails_of fed_by_rail _ (true ∷ false ∷ []) bits refl (refl, (refl, tt)) ((refl, tt), (refl, tt)), tt)
     ((0 ∷ 1 ∷ 3 ∷ []) ∷ [] ∷ []) _ refl 1 refl
 
-both_clear_breaks : BreaksAlone both_clear (WrongPreload (numbered 0))
-both_clear_breaks = record {
-  first = first_refusal _ _ (
-    droc Back false 4 (on 0) (on 1),
-    refl,
-    4,
-    false,
-    false,
-    (refl, refl, refl),
-    record { front = droc Front false 2 (on 4) unused; among = inr (inr (inl refl)); feed = 2; role = (refl, refl, refl); q = refl },
-    λ e. absurd cc,
-  ) refl;
-  others = refl;
-}
-
 wrong_preload_is_upset : IsUpsetWithout both_clear ((false ∷ []) ∷ []) (WrongPreload (numbered 0))
 wrong_preload_is_upset =
     let bits = false ∷ true ∷ true ∷ true ∷ false ∷ false ∷ true ∷ [] in
-    is_upset both_clear ((false ∷ []) ∷ []) (WrongPreload (numbered 0)) both_clear_breaks (bits ∷ [])
+    is_upset both_clear ((false ∷ []) ∷ []) (WrongPreload (numbered 0))
+    (record { first = first_refusal _ _ (clear_pair_breaks both_clear refl (inr (inr (inl refl)))) refl; others = refl }) (bits ∷ [])
     (rails_of both_clear _ (false ∷ []) bits refl (refl, tt) ((refl, refl), ((refl, refl), (tt, (refl, tt)))), tt)
     ((1 ∷ 2 ∷ 3 ∷ 6 ∷ []) ∷ (1 ∷ []) ∷ []) _ refl 3 refl
 

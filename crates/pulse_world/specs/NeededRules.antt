@@ -10,7 +10,7 @@ use Rattle.cell_netlist.specs.World.{Upset, deliver}
 use Rattle.cell_netlist.specs.Runs.{Moment, IsMoment}
 use Rattle.cell_netlist.specs.RailEquations.{IsNetRun}
 use Rattle.cell_netlist.specs.Delivery.{Delivers}
-use Rattle.cell_netlist.specs.ExampleNetlists.{rail, la, fa, split, on, unused, droc, plain}
+use Rattle.cell_netlist.specs.ExampleNetlists.{rail, la, fa, split, on, unused, droc, plain, looped}
 use Rattle.cell_netlist.specs.ExampleRefusals.{BreaksAlone}
 
 -- A netlist that breaks one rule of soundness and no other. On these vectors it has a run by its equations, but
@@ -42,10 +42,6 @@ abbrev pub tapped : PlainNetlist
 tapped = plain 1 3 (rail 0 Pos 5 ∷ [])
     (droc Back false 4 (on 0) (on 1) ∷ split 1 2 3 ∷ droc Front true 2 (on 4) unused ∷ fa 4 5 6 ∷ [])
     (rail 0 Pos 0 ∷ rail 1 Pos 3 ∷ rail 2 Pos 6 ∷ [])
-
--- an LA that reads its own output, and so never emits
-abbrev pub looped : PlainNetlist
-looped = plain 1 1 (rail 0 Pos 0 ∷ []) (split 0 2 3 ∷ la 2 1 1 ∷ []) (rail 0 Pos 3 ∷ [])
 
 -- a constant that an input rail feeds in place of its own `n`, so that its `q` pulses in both phases
 abbrev pub fed_by_rail : PlainNetlist

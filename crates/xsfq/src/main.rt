@@ -1,11 +1,12 @@
 //! The program `xsfq`: the words, the standard streams and the exit code around the top call of `xsfq_cli`.
 #![tactic(auto)]
 
+use buffered_sink::BufferedSink;
 use byte_ports::{StdSink, StdSource};
 use std::env;
-use std::io::{BufWriter, Error, ErrorKind};
+use std::io::{Error, ErrorKind};
 use std::process::ExitCode;
-use xsfq_cli::{Outcome, refuse, run};
+use xsfq_cli::{Outcome, run};
 
 /// The exit code where the words cannot be read, as where one is no UTF-8. No outcome has it.
 const UNREADABLE_WORDS: u8 = 11;
@@ -25,17 +26,9 @@ fn main(rt: HostRuntime) -> ExitCode {
         Err(_) => return ExitCode::from(UNREADABLE_WORDS),
     };
     let mut input = StdSource::new(rt.stdin());
+    // Many short pieces are written by one system call. After a write that failed there is none.
+    let mut output = BufferedSink::new(rt.alloc(), StdSink::new(rt.stdout()));
     let mut notes = StdSink::new(rt.stderr());
-    // Many short lines are written by one system call.
-    let outcome = match BufWriter::new(rt.alloc(), rt.stdout()) {
-        Ok(writer) => run(
-            rt.alloc(),
-            &words,
-            &mut input,
-            &mut StdSink::new(writer),
-            &mut notes,
-        ),
-        Err(_) => refuse(&words, &mut notes),
-    };
+    let outcome = run(rt.alloc(), &words, &mut input, &mut output, &mut notes);
     ExitCode::from(outcome.code())
 }

@@ -1,12 +1,11 @@
--- The lemmas of this crate. Those of wires go when real circuits come.
-pub mod BytesTaken
-pub mod WireCodes
-pub mod WireCompiled
-pub mod WireFields
-pub mod WireHeaders
-pub mod WireLines
-pub mod WireMachines
-pub mod WireRanks
-pub mod WireSlots
-pub mod WireSound
-pub mod WireTexts
+-- The lemmas of this crate.
+pub mod AigerAnswers
+pub mod AigerVerdicts
+pub mod Compiled
+pub mod HeadlineLaws
+pub mod Judging
+pub mod Noting
+pub mod OptionPairs
+pub mod SourceReading
+pub mod TableLaws
+pub mod Taking

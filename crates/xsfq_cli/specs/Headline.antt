@@ -1,41 +1,50 @@
 -- The headline: what it means that a source was compiled to a netlist.
-use Rattle.std.specs.Prelude.{◌≡◌, ℕ, Bool, List, None, length, slice_index_or}
+use Rattle.std.specs.Prelude.{◌≡◌, ℕ, Bool, List, Ok, length}
 use Rattle.source_machine.specs.Machines.{PlainMachine}
 use Rattle.source_machine.specs.Fitting.{Fits}
 use Rattle.source_machine.specs.Grounding.{IsWellFounded}
 use Rattle.source_machine.specs.Runs.{IsRun, bit_of}
 use Rattle.source_machine.specs.Laws.{AreVectors}
-use Rattle.cell_netlist.specs.declared.kinds.Ask.TheVariants.{Pos}
+use Rattle.cell_netlist.specs.declared.kinds.Ask.{Ask}
 use Rattle.cell_netlist.specs.Asked.{Asks}
 use Rattle.cell_netlist.specs.Delivery.{Delivers}
-use Rattle.cell_netlist.specs.Names.{name_at}
+use Rattle.cell_netlist.specs.NetRuns.{OutputsCarry}
+use Rattle.cell_netlist.specs.RailEquations.{IsNetRun}
 use Rattle.cell_netlist.specs.Netlists.{PlainNetlist, IsNetlist}
 use Rattle.cell_netlist.specs.Sound.{IsSound}
-use Rattle.xsfq_cli.specs.Verdicts.{HasVerdict, Reads}
+use Rattle.rail_mapper.specs.Mapped.{HasFewCells, Named}
+use Rattle.xsfq_cli.specs.Sources.{HasVerdict}
 
--- a netlist has a machine's numbers of ports, and the machine's name at each port
-pub record Named (machine : PlainMachine) (net : PlainNetlist) : Type 0 where
-  pub inputs : net.inputs ≡ length machine.inputs
-  pub outputs : net.outputs ≡ length machine.outputs
-  pub input_names : (port : ℕ) → name_at net.input_names port ≡ slice_index_or machine.input_names port None
-  pub output_names : (port : ℕ) → name_at net.output_names port ≡ slice_index_or machine.output_names port None
-
--- The headline. A source of these bytes was compiled to a netlist:
-pub record IsCompiled (bytes : List ℕ) (net : PlainNetlist) : Type 0 where
-  -- the verdict of the source is a machine, which is well founded and has exactly one run on every list of
-  -- vectors
-  pub machine : PlainMachine
-  pub verdict : HasVerdict bytes (Reads machine)
+-- A machine computes one thing: it is well founded and has exactly one run on every list of vectors.
+pub record ComputesOnce (machine : PlainMachine) : Type 0 where
   pub fits : Fits machine
   pub founded : IsWellFounded machine
   pub some_run : (vectors : List (List Bool)) → AreVectors machine vectors → (valuations : List (List Bool)) × IsRun machine vectors valuations
   pub one_run : (vectors : List (List Bool)) → AreVectors machine vectors → (one other : List (List Bool))
       → IsRun machine vectors one → IsRun machine vectors other → one ≡ other
-  -- the netlist has a text, is sound, and has exactly the asked output rails and the machine's ports and names
+
+-- A netlist is one of a machine with the asked rails:
+pub record IsNetOf (machine : PlainMachine) (ask : Ask) (net : PlainNetlist) : Type 0 where
+  -- it has a text, is sound, and has exactly the asked output rails and the machine's ports and names
   pub netlist : IsNetlist net
   pub sound : IsSound net
-  pub asked : Asks Pos (length machine.outputs) net
+  pub asked : Asks ask (length machine.outputs) net
   pub named : Named machine net
-  -- under every order of deliveries it delivers the machine's outputs
+  -- by its rail equations, of which it has a run on all vectors, the output rails carry the machine's outputs
+  pub some_run : (vectors : List (List Bool)) → (run : List (List Bool)) × IsNetRun net vectors run
+  pub carries : (vectors valuations run : List (List Bool)) → AreVectors machine vectors → IsRun machine vectors valuations → IsNetRun net vectors run
+      → OutputsCarry net vectors run (bit_of machine valuations)
+  -- and under every order of deliveries it delivers them
   pub delivers : (vectors valuations : List (List Bool)) → AreVectors machine vectors → IsRun machine vectors valuations
       → Delivers net vectors (bit_of machine valuations)
+  -- it has at most as many LA and as many FA cells as the machine's size, one constant, and as many backs as the
+  -- machine has latches
+  pub cells : HasFewCells machine net
+
+-- The headline. A source of these bytes was compiled to a netlist with the asked rails: the verdict of the source is
+-- a machine, and the netlist is one of it.
+pub record IsCompiled (ask : Ask) (bytes : List ℕ) (net : PlainNetlist) : Type 0 where
+  pub machine : PlainMachine
+  pub verdict : HasVerdict bytes (Ok machine)
+  pub computes : ComputesOnce machine
+  pub net_of : IsNetOf machine ask net

@@ -1,10 +1,15 @@
--- The definitions of this crate. Those of wires go when real circuits come.
+-- The definitions of this crate.
+pub mod Answering
+pub mod Examples
+pub mod Halves
 pub mod Headline
-pub mod Compiling
+pub mod Judgements
+pub mod Laws
+pub mod Limited
+pub mod Notes
 pub mod Orders
 pub mod Outcomes
-pub mod Verdicts
-pub mod WireCodes
-pub mod WireFields
-pub mod WireNetlists
-pub mod WireTexts
+pub mod Pieces
+pub mod Reading
+pub mod Sources
+pub mod Table

@@ -1,25 +1,29 @@
--- The exit code and the note of each outcome.
-use Rattle.std.specs.Prelude.{ℕ, Option, Some, None, List, [], codes, unwrap_or}
+-- The exit code of each outcome, and the outcomes that refuse an input.
+use Rattle.std.specs.Prelude.{ℕ, ⊤}
+use Rattle.aiger_reader.specs.declared.refusals.AigerRefusal.{AigerRefusal}
+use Rattle.aiger_reader.specs.declared.refusals.AigerRefusal.TheVariants as refusals
 use Rattle.xsfq_cli.specs.declared.outcomes.Outcome.{Outcome}
-use Rattle.xsfq_cli.specs.declared.outcomes.Outcome.TheVariants.{Done, Usage, ReadFault, WriteFault, NoMemory, NotBuilt}
+use Rattle.xsfq_cli.specs.declared.outcomes.Outcome.TheVariants.{Done, Usage, Aiger, Limit, ReadFault, WriteFault, NoMemory, NotBuilt}
 
 abbrev pub code_of : Outcome → ℕ
 code_of Done = 0
 code_of Usage = 2
+code_of (Aiger fault) = 3
+code_of (Limit quantity) = 4
 code_of ReadFault = 7
 code_of WriteFault = 8
 code_of NoMemory = 9
 code_of NotBuilt = 10
 
--- the note's line, and none after `Done`
-abbrev pub note_of : Outcome → Option (List ℕ)
-note_of Done = None
-note_of Usage = Some (codes "usage: compile, check, simulate, report or workload\n")
-note_of ReadFault = Some (codes "read failed\n")
-note_of WriteFault = Some (codes "write failed\n")
-note_of NoMemory = Some (codes "no memory\n")
-note_of NotBuilt = Some (codes "not built yet\n")
+-- the outcome of an AIGER reader's refusal
+abbrev pub aiger_outcome : AigerRefusal → Outcome
+aiger_outcome (refusals.Fault fault) = Aiger fault
+aiger_outcome (refusals.Limit quantity) = Limit quantity
+aiger_outcome refusals.NoMemory = NoMemory
 
--- the bytes of the note, none after `Done`
-abbrev pub note_text : Outcome → List ℕ
-note_text outcome = unwrap_or (note_of outcome) []
+-- the outcome refuses an input for its bytes
+abbrev pub IsRefusal : Outcome → Type 0
+IsRefusal (Aiger fault) = ⊤
+IsRefusal (Limit quantity) = ⊤
+IsRefusal NotBuilt = ⊤
+IsRefusal _ = ⊥

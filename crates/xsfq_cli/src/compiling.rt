@@ -1,50 +1,79 @@
-//! From a source to its netlist.
+//! `compile`: from a source to its netlist.
 
-ghost use Rattle.std.specs.Prelude.{◌≡◌, ◌⊎◌, ◌<◌, List, ℕ, IfOk, IfErr, OnOk, IfSome};
-ghost use Rattle.byte_ports.specs.Causes.{Rose};
-ghost use Rattle.xsfq_cli.specs.declared.outcomes.Outcome.TheVariants as outcomes;
-ghost use Rattle.xsfq_cli.specs.Headline.{IsCompiled};
-ghost use Rattle.xsfq_cli.specs.Compiling.{TakesAll, TakesAtMost, most_taken};
-ghost use Rattle.xsfq_cli.specs.Verdicts.{HasVerdict, Unbuilt};
+ghost use Rattle.std.specs.Prelude.{IfOk, IsTrue, OnOk};
+ghost use Rattle.byte_ports.specs.Writing.{WritesText};
+ghost use Rattle.cell_netlist.specs.Text.{text_of};
+ghost use Rattle.xsfq_cli.specs.Headline.{ComputesOnce, IsNetOf};
 
+use crate::commands::Command;
+use crate::consuming::read_whole;
 use crate::outcomes::Outcome;
-use crate::reading::{ReadError, read_text};
-use crate::wires::{netlist_of_wires, read_wire_text};
-use byte_ports::Source;
-use cell_netlist::Netlist;
-use pulse_world::every_order_without_cells;
-use source_machine::one_run;
+use crate::sources::SourceReader;
+use aiger_reader::early_refusals_stand;
+use byte_ports::{Failed, Sink, Source};
+use cell_netlist::{Ask, Netlist, SoundNet, equation_runs};
+use graph_build::build;
+use netlist_writer::write_netlist;
+use pulse_ids::NoMemory;
+use pulse_world::every_order;
+use rail_demand::demand;
+use rail_mapper::map;
+use source_machine::{Machine, one_run};
 use std::alloc::Global;
 
-/// No source of a form that is built has so many bytes.
-const MOST_BYTES: usize = 262_144;
+/// Compiles a source to a netlist with these rails of each output port.
+#[derive(Drop)]
+pub(crate) struct Compile {
+    pub(crate) ask: Ask,
+}
 
-/// Reads a source and makes its netlist, or answers the outcome. It takes all the memory that the command needs,
-/// and never sees the output.
-pub(crate) fn prepare<S: Source>(alloc: Global, input: &mut S) -> Result<Netlist, Outcome>
-    ensures bounded { TakesAtMost most_taken (S.left input.old) (S.left input.new) }
-    ensures made { IfOk result (λ net. (bytes : List ℕ) × TakesAll (S.left input.old) (S.left input.new) bytes × IsCompiled bytes net) }
-    ensures calm { OnOk result (S.faults input.new ≡ S.faults input.old) }
-    ensures answers { IfErr result (λ outcome. (outcome ≡ outcomes.ReadFault) ⊎ ((outcome ≡ outcomes.NoMemory) ⊎ (outcome ≡ outcomes.NotBuilt))) }
-    ensures read_fault { IfErr result (λ outcome. outcome ≡ outcomes.ReadFault → Rose (S.faults input.old) (S.faults input.new)) }
-    ensures no_memory { IfErr result (λ outcome. outcome ≡ outcomes.NoMemory → S.faults input.new ≡ S.faults input.old) }
-    ensures not_built { IfErr result (λ outcome. outcome ≡ outcomes.NotBuilt → S.faults input.new ≡ S.faults input.old) }
-    ensures unbuilt { IfErr result (λ outcome. outcome ≡ outcomes.NotBuilt → IfSome (S.left input.old) (λ bytes. HasVerdict bytes Unbuilt)) }
+/// The netlist of a machine: its graph, the rails that are needed, and the cells for them.
+fn netlist_of(alloc: Global, machine: &Machine, ask: Ask) -> Result<SoundNet, NoMemory>
+    ensures computes { ComputesOnce machine.now }
+    ensures net { IfOk result (λ net. IsNetOf machine.now ask net) }
 {
-    let text = match read_text(alloc, input, MOST_BYTES) {
-        Ok(text) => text,
-        Err(ReadError::Failed) => return Err(Outcome::ReadFault),
-        Err(ReadError::NoMemory) => return Err(Outcome::NoMemory),
-    };
-    if !text.ended {
-        return Err(Outcome::NotBuilt);
-    }
-    let Some(machine) = read_wire_text(alloc, &text.bytes)? else {
-        return Err(Outcome::NotBuilt);
-    };
-    let net = netlist_of_wires(alloc, &machine)?;
-    // The laws that the clauses rest on; these calls do nothing.
+    // The laws that the clauses rest on, and what a machine and a netlist are; these calls do nothing.
     one_run();
-    every_order_without_cells();
+    equation_runs();
+    every_order();
+    let _ = machine.raw();
+    let built = build(alloc, machine)?;
+    let needed = demand(alloc, &built, ask)?;
+    let net = map(alloc, machine, &built, &needed, ask)?;
+    let _ = net.net().wires();
     Ok(net)
+}
+
+/// Writes a netlist whole and flushes.
+fn emit<K: Sink>(net: &Netlist, output: &mut K) -> Result<(), Failed>
+    ensures written { WritesText (K.taken output.old) (K.taken output.new) (K.faults output.old) (K.faults output.new) result (text_of net.now) }
+    ensures flushed { OnOk result (IsTrue (K.flushed output.new)) }
+{
+    write_netlist(net, output)?;
+    output.flush()
+}
+
+impl Command for Compile {
+    ghost use Rattle.std.specs.Prelude.{◌≡◌};
+    ghost use Rattle.cell_netlist.specs.Text.{text_of};
+    ghost use Rattle.xsfq_cli.specs.declared.orders.Order.TheVariants as orders;
+    ghost use Rattle.xsfq_cli.specs.declared.outcomes.Outcome.TheVariants as outcomes;
+
+    type Task = SoundNet;
+
+    ghost order = { λ command. orders.Compile command.ask };
+
+    ghost tells = { λ net text ending. (text ≡ text_of net) × (ending ≡ outcomes.Done) };
+
+    fn prepare<S: Source>(self, alloc: Global, input: &mut S) -> Result<SoundNet, Outcome> {
+        early_refusals_stand();
+        let machine = read_whole(input, SourceReader::new(alloc))?;
+        let net = netlist_of(alloc, &machine, self.ask)?;
+        Ok(net)
+    }
+
+    fn write<K: Sink>(task: SoundNet, output: &mut K) -> Result<Outcome, Failed> {
+        emit(task.net(), output)?;
+        Ok(Outcome::Done)
+    }
 }

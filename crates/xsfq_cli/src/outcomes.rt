@@ -1,19 +1,23 @@
-//! How a call of the compiler ended: its exit code and its note.
+//! How a call of the compiler ended, and its exit code.
 
 ghost use Rattle.std.specs.Prelude.{◌≡◌};
-ghost use Rattle.std.specs.Option.{option_copied};
-ghost use Rattle.xsfq_cli.specs.Outcomes.{code_of, note_of};
+ghost use Rattle.xsfq_cli.specs.Outcomes.{aiger_outcome, code_of};
 ghost use Rattle.xsfq_cli.specs.declared.outcomes.Outcome.TheVariants as outcomes;
 
-use pulse_ids::NoMemory;
+use aiger_reader::{AigerFault, AigerRefusal};
+use pulse_ids::{NoMemory, Quantity};
 
 /// How a call of the compiler ended.
-#[derive(Clone, Copy, Debug, PartialEq, Eq)]
+#[derive(Debug, Drop)]
 pub enum Outcome {
     /// The command's whole text was written and flushed, and the input was read to its end.
     Done,
     /// The words order nothing.
     Usage,
+    /// The source is AIGER, and something is wrong with it.
+    Aiger(AigerFault),
+    /// The input has too much of something.
+    Limit(Quantity),
     /// A read of the input failed.
     ReadFault,
     /// A write or the flush of the output failed.
@@ -32,24 +36,12 @@ impl Outcome {
         match self {
             Outcome::Done => 0,
             Outcome::Usage => 2,
+            Outcome::Aiger(_) => 3,
+            Outcome::Limit(_) => 4,
             Outcome::ReadFault => 7,
             Outcome::WriteFault => 8,
             Outcome::NoMemory => 9,
             Outcome::NotBuilt => 10,
-        }
-    }
-
-    /// The line for the notes, with its line end. There is none after `Done`.
-    pub fn note(self) -> Option<&'static str>
-        ensures { option_copied result ≡ note_of self }
-    {
-        match self {
-            Outcome::Done => None,
-            Outcome::Usage => Some("usage: compile, check, simulate, report or workload\n"),
-            Outcome::ReadFault => Some("read failed\n"),
-            Outcome::WriteFault => Some("write failed\n"),
-            Outcome::NoMemory => Some("no memory\n"),
-            Outcome::NotBuilt => Some("not built yet\n"),
         }
     }
 }
@@ -59,5 +51,17 @@ impl From<NoMemory> for Outcome {
 
     fn from(_: NoMemory) -> Self {
         Outcome::NoMemory
+    }
+}
+
+impl From<AigerRefusal> for Outcome {
+    ghost from_gives = { λ refusal outcome. outcome ≡ aiger_outcome refusal };
+
+    fn from(refusal: AigerRefusal) -> Self {
+        match refusal {
+            AigerRefusal::Fault(fault) => Outcome::Aiger(fault),
+            AigerRefusal::Limit(quantity) => Outcome::Limit(quantity),
+            AigerRefusal::NoMemory => Outcome::NoMemory,
+        }
     }
 }

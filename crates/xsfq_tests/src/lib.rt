@@ -1,8 +1,6 @@
-//! The tests of the base, the writer and the commands: cases as tables, one test a table. Outside tests there is no code here.
+//! The tests of the base and the writer: cases as tables, one test a table. Outside tests there is no code here.
 #![tactic(auto)]
 
-#[cfg(test)]
-mod commands;
 #[cfg(test)]
 mod netlists;
 #[cfg(test)]

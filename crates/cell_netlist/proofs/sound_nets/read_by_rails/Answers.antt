@@ -4,7 +4,8 @@ use Rattle.cell_netlist.specs.declared.lines.Reader.TheVariants as readers_of
 use Rattle.cell_netlist.specs.Netlists.{wire_of}
 use Rattle.cell_netlist.specs.Places.{rail_places}
 use Rattle.cell_netlist.specs.PlaceTables.{written}
-use Rattle.cell_netlist.proofs.TableLemmas.{numbered-is, written_rail, rail_bound, set-length}
+use Rattle.cell_netlist.proofs.CallerLemmasOnLists.{set-length}
+use Rattle.cell_netlist.proofs.TableLemmas.{numbered-is, written_rail, rail_bound}
 use Rattle.cell_netlist.proofs.sound_nets.read_by_rails.Goals as goal
 
 pub set-requires : goal.set-requires

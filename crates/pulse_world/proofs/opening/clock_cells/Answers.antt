@@ -2,7 +2,7 @@ use Rattle.std.proofs.Common.{◌≡◌, ◌∙◌, ◌+◌, ◌++◌, Some, dro
 use Rattle.cell_netlist.specs.Netlists.{used}
 use Rattle.cell_netlist.specs.World.{clock_pulses, cleared}
 use Rattle.pulse_world.specs.PendingQueues.{PlainQueue, HasRoomFor}
-use Rattle.pulse_world.proofs.QueuePlaces.{set-length}
+use Rattle.cell_netlist.proofs.CallerLemmasOnLists.{set-length}
 use Rattle.pulse_world.proofs.QueueRoom.{room-split, queue-step, clock-step, cell_state-at, cleared-set, cleared-none, cleared-all}
 use Rattle.pulse_world.proofs.opening.clock_cells.Goals as goal
 

@@ -2,7 +2,8 @@ use Rattle.std.proofs.Common.{◌≡◌, ◌∙◌, ◌+◌, ◌++◌, Some, dro
 use Rattle.cell_netlist.specs.Netlists.{used}
 use Rattle.cell_netlist.specs.World.{rail_pulses}
 use Rattle.pulse_world.specs.PendingQueues.{PlainQueue, HasRoomFor}
-use Rattle.pulse_world.proofs.QueueRoom.{drop-at, room-split, queue-step}
+use Rattle.cell_netlist.proofs.CallerLemmasOnLists.{drop-at}
+use Rattle.pulse_world.proofs.QueueRoom.{room-split, queue-step}
 use Rattle.pulse_world.proofs.opening.pulse_rails.Goals as goal
 
 pub append_if_used-requires : goal.append_if_used-requires

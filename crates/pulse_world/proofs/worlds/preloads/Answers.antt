@@ -1,7 +1,7 @@
 use Rattle.std.proofs.Common.{◌≡◌, ◌∙◌, ◌+◌, ◌++◌, ◌∷◌, [], Some, drop, map, length, slice_get, ap, sym, subst}
 use Rattle.std.proofs.lemmas.List.{length-append, append_assoc}
 use Rattle.cell_netlist.specs.World.{preloaded}
-use Rattle.pulse_world.proofs.QueueRoom.{drop-at}
+use Rattle.cell_netlist.proofs.CallerLemmasOnLists.{drop-at}
 use Rattle.pulse_world.proofs.worlds.preloads.Goals as goal
 
 pub loop-number-preserved : goal.loop-number-preserved

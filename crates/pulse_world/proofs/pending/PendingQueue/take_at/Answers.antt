@@ -3,7 +3,8 @@ use Rattle.std.specs.List.{swap_remove}
 use Rattle.std.proofs.lemmas.List.{length-map}
 use Rattle.std.proofs.lemmas.Option.{slice_get_within}
 use Rattle.pulse_world.specs.PendingQueues.{PlainQueue, number_in}
-use Rattle.pulse_world.proofs.QueuePlaces.{queue-remove, number-at, removed-numbers, set-length}
+use Rattle.cell_netlist.proofs.CallerLemmasOnLists.{set-length}
+use Rattle.pulse_world.proofs.QueuePlaces.{queue-remove, number-at, removed-numbers}
 use Rattle.pulse_world.proofs.pending.PendingQueue.take_at.Goals as goal
 
 pub set-requires : goal.set-requires

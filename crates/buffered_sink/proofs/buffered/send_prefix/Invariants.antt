@@ -1,0 +1,13 @@
+-- The first `count` bytes were taken.
+use Rattle.std.proofs.Common.{length, take, ◌-◌, ◌≤◌}
+use Rattle.std.specs.Io.KnownBytes.{Appends}
+use Rattle.buffered_sink.proofs.buffered.send_prefix.Given as goal
+
+abbrev pub invariant-loop-count : goal.invariant-loop-count
+invariant-loop-count g l = record {
+  within : l.count ≤ length l.bytes;
+  grown : Appends (g.K.Sink.taken l.fn.sink) (g.K.Sink.taken l.sink) (take l.count l.bytes);
+}
+
+abbrev pub decreases-loop-count : goal.decreases-loop-count
+decreases-loop-count g l = length l.bytes - l.count

@@ -1,0 +1,10 @@
+use Rattle.std.proofs.Common.{◌≡◌, ◌≤◌, length, drop}
+use Rattle.std.specs.List.{flat_map}
+use Rattle.cell_netlist.specs.Netlists.{wire_bound, outs}
+use Rattle.rail_checker.specs.Counts.{with_wires}
+use Rattle.rail_checker.proofs.counting.count_outs.Given as goal
+
+-- what is counted, and then what is left, is all
+abbrev pub invariant-loop-number : goal.invariant-loop-number
+invariant-loop-number l = (with_wires l.counts (flat_map outs (drop l.number l.cells)) ≡ with_wires l.fn.counts (flat_map outs l.cells))
+    × (wire_bound (flat_map outs l.cells) ≤ length l.counts)

@@ -1,0 +1,7 @@
+-- The words of the checker.
+pub mod Verdicts
+pub mod Refused
+pub mod Counts
+pub mod Rails
+pub mod Needs
+pub mod Tables

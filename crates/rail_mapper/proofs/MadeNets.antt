@@ -1,0 +1,72 @@
+-- A draft with all lines and the names of the ports is the netlist of the machine.
+use Rattle.std.proofs.Common.{◌≡◌, ◌<◌, ◌∙◌, ℕ, Option, List, map, length, ap, sym, subst, arith}
+use Rattle.pulse_ids.specs.Lists.{IsIn}
+use Rattle.pulse_ids.specs.declared.literals.Sign.{Sign}
+use Rattle.pulse_ids.proofs.CallerLemmas.{IsIn-map}
+use Rattle.cell_netlist.specs.declared.kinds.Ask.{Ask}
+use Rattle.cell_netlist.specs.declared.lines.Rail.{Rail}
+use Rattle.cell_netlist.specs.Asked.{rail_of, asked_rails}
+use Rattle.cell_netlist.specs.Netlists.{PlainNetlist}
+use Rattle.cell_netlist.specs.Sound.{IsSound}
+use Rattle.aig_core.specs.Laws.{NodesHaveTheirBits}
+use Rattle.source_machine.specs.Machines.{PlainMachine}
+use Rattle.graph_build.specs.Built.{PlainBuilt, IsGraphOf}
+use Rattle.rail_demand.specs.Demands.{PlainDemand}
+use Rattle.rail_mapper.specs.Drafts.{PlainDraft}
+use Rattle.rail_mapper.specs.Makings.{HasFrame, LinesStand}
+use Rattle.rail_mapper.specs.Mapped.{IsMapped}
+use Rattle.rail_mapper.specs.Naming.{HasNames, NamesPorts}
+use Rattle.rail_mapper.specs.Ports.{KeepsInputs}
+use Rattle.rail_mapper.proofs.NamedDrafts.{with_names, named_draft, named_outputs}
+use Rattle.rail_mapper.proofs.NeededInputs.{inputs_within, inputs_none_twice}
+use Rattle.rail_mapper.proofs.OutputStageLemmas.{ends_sound, ends_carries}
+
+-- what keeps the ports keeps the frame
+pub frame_kept : (built : PlainBuilt) (demand : PlainDemand) (before after : PlainDraft) → HasFrame built demand before → KeepsInputs before after → HasFrame built demand after
+frame_kept built demand before after h kept = record {
+  inputs = kept.inputs ∙ h.inputs;
+  outputs = kept.outputs ∙ h.outputs;
+  input_rails = ap (map rail_of) kept.input_rails ∙ h.input_rails;
+  no_input_names = kept.input_names ∙ h.no_input_names;
+  no_output_names = kept.output_names ∙ h.no_output_names;
+}
+
+module _ (machine : PlainMachine) (built : PlainBuilt) (demand : PlainDemand) (ask : Ask) (graph : IsGraphOf machine built) (draft : PlainDraft) (h : LinesStand built demand ask draft)
+    (inputs outputs : List (ℕ × List ℕ)) where
+  abbrev its : PlainDraft
+  its = named_draft draft inputs outputs
+
+  input_low : (rail : Rail) → IsIn rail its.net.input_rails → rail.port < its.net.inputs
+  input_low rail m =
+      let i : IsIn (rail_of rail) (map rail_of draft.net.input_rails) = IsIn-map rail_of rail draft.net.input_rails m in
+      let low = inputs_within demand built.graph.inputs (rail_of rail) (subst (λ (l : List (ℕ × Sign)). IsIn (rail_of rail) l) h.frame.input_rails i) in
+      omega (arith, h.frame.inputs)
+
+  pub made_sound : IsSound its.net
+  made_sound = ends_sound built ask its (named_outputs built ask (length built.outputs) draft inputs outputs h.outputs) h.frame.outputs input_low
+      (inputs_none_twice rail_of demand built.graph.inputs draft.net.input_rails h.frame.input_rails)
+
+  pub made_mapped : NodesHaveTheirBits → HasNames machine.input_names inputs → HasNames machine.output_names outputs → IsMapped machine built demand ask its.net
+  made_mapped law in_named out_named = record {
+    sound = made_sound;
+    asked = h.outputs.rails ∙ ap (asked_rails ask) graph.one_output_each;
+    named = record { inputs = h.frame.inputs ∙ graph.inputs; outputs = h.frame.outputs ∙ graph.one_output_each; input_names = in_named; output_names = out_named };
+    carries = λ vectors valuations run fit ran net_ran.
+        ends_carries built ask its (named_outputs built ask (length built.outputs) draft inputs outputs h.outputs) machine graph law vectors run valuations net_ran ran;
+    cells = record { input_rails = h.frame.input_rails; gates = h.gates; drocs = h.roles };
+  }
+
+-- the same of a netlist that got its names
+pub net_sound : (machine : PlainMachine) (built : PlainBuilt) (demand : PlainDemand) (ask : Ask) → IsGraphOf machine built → (draft : PlainDraft) → LinesStand built demand ask draft
+    → (input_names output_names : List (Option (List ℕ))) (old net : PlainNetlist)
+    → old ≡ draft.net → NamesPorts input_names output_names old net → IsSound net
+net_sound machine built demand ask graph draft h input_names output_names old net same names =
+    subst IsSound (sym (names.added ∙ ap (λ (n : PlainNetlist). with_names n net.input_names net.output_names) same))
+    (made_sound machine built demand ask graph draft h net.input_names net.output_names)
+
+pub net_mapped : (machine : PlainMachine) (built : PlainBuilt) (demand : PlainDemand) (ask : Ask) → IsGraphOf machine built → NodesHaveTheirBits → (draft : PlainDraft)
+    → LinesStand built demand ask draft → (old net : PlainNetlist)
+    → old ≡ draft.net → NamesPorts machine.input_names machine.output_names old net → IsMapped machine built demand ask net
+net_mapped machine built demand ask graph law draft h old net same names =
+    subst (IsMapped machine built demand ask) (sym (names.added ∙ ap (λ (n : PlainNetlist). with_names n net.input_names net.output_names) same))
+    (made_mapped machine built demand ask graph draft h net.input_names net.output_names law names.inputs names.outputs)

@@ -1,0 +1,19 @@
+-- The words of drafts, of their stages, and of what it means that a machine was mapped.
+pub mod Cells
+pub mod Counts
+pub mod Drafts
+pub mod FrontStages
+pub mod InputStages
+pub mod Labels
+pub mod LatchStages
+pub mod Lines
+pub mod Makings
+pub mod Mapped
+pub mod Naming
+pub mod OutputStages
+pub mod Plans
+pub mod Ports
+pub mod Shelves
+pub mod Stages
+pub mod Starts
+pub mod Tracks

@@ -1,0 +1,45 @@
+-- How far a netlist has come on its way from a graph.
+use Rattle.std.specs.Prelude.{◌≡◌, ◌+◌, ◌*◌, [], map, length}
+use Rattle.std.specs.List.{flat_map}
+use Rattle.cell_netlist.specs.declared.kinds.Ask.{Ask}
+use Rattle.cell_netlist.specs.Asked.{rail_of}
+use Rattle.graph_build.specs.Built.{PlainBuilt}
+use Rattle.rail_demand.specs.Demands.{PlainDemand}
+use Rattle.rail_mapper.specs.Cells.{gate_in, role_in, gates_for, constant_for, roles_for, inputs_for}
+use Rattle.rail_mapper.specs.Drafts.{PlainDraft}
+use Rattle.rail_mapper.specs.LatchStages.{FrontsAt}
+use Rattle.rail_mapper.specs.OutputStages.{OutputsAt}
+use Rattle.rail_mapper.specs.Stages.{IsStage}
+
+-- the graph's numbers of ports, the needed rails of inputs, and no names yet
+pub record HasFrame (built : PlainBuilt) (demand : PlainDemand) (draft : PlainDraft) : Type 0 where
+  pub inputs : draft.net.inputs ≡ built.graph.inputs
+  pub outputs : draft.net.outputs ≡ length built.outputs
+  pub input_rails : map rail_of draft.net.input_rails ≡ inputs_for demand built.graph.inputs
+  pub no_input_names : draft.net.input_names ≡ []
+  pub no_output_names : draft.net.output_names ≡ []
+
+-- the input rails, the constant and the trees of both stand
+pub record InputsStand (built : PlainBuilt) (demand : PlainDemand) (ask : Ask) (draft : PlainDraft) : Type 0 where
+  pub stage : IsStage built demand ask (2 * (1 + built.graph.inputs)) draft
+  pub no_pending : draft.pending ≡ []
+  pub frame : HasFrame built demand draft
+  pub no_outputs : draft.net.output_rails ≡ []
+  pub no_gates : flat_map gate_in draft.net.cells ≡ []
+  pub roles : flat_map role_in draft.net.cells ≡ constant_for demand
+
+-- all cells stand
+pub record CellsStand (built : PlainBuilt) (demand : PlainDemand) (ask : Ask) (draft : PlainDraft) : Type 0 where
+  pub fronts : FrontsAt built ask draft
+  pub no_pending : draft.pending ≡ []
+  pub frame : HasFrame built demand draft
+  pub no_outputs : draft.net.output_rails ≡ []
+  pub gates : flat_map gate_in draft.net.cells ≡ gates_for built demand
+  pub roles : flat_map role_in draft.net.cells ≡ roles_for built demand
+
+-- all lines stand
+pub record LinesStand (built : PlainBuilt) (demand : PlainDemand) (ask : Ask) (draft : PlainDraft) : Type 0 where
+  pub outputs : OutputsAt built ask (length built.outputs) draft
+  pub frame : HasFrame built demand draft
+  pub gates : flat_map gate_in draft.net.cells ≡ gates_for built demand
+  pub roles : flat_map role_in draft.net.cells ≡ roles_for built demand

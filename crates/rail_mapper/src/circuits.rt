@@ -1,0 +1,13 @@
+//! What is to be mapped.
+
+use cell_netlist::Ask;
+use graph_build::Built;
+use rail_demand::Demand;
+
+/// A graph with its needed rails, and which output rails are asked for.
+#[derive(Clone, Copy)]
+pub(crate) struct Circuit<'a> {
+    pub(crate) built: &'a Built,
+    pub(crate) demand: &'a Demand,
+    pub(crate) ask: Ask,
+}

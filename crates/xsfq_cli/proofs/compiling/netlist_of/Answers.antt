@@ -1,0 +1,10 @@
+-- The netlist of a machine by the laws of the layers below.
+use Rattle.std.proofs.Common.{subst}
+use Rattle.cell_netlist.specs.Netlists.{PlainNetlist, IsNetlist}
+use Rattle.xsfq_cli.proofs.Compiled.{mapped_is_net_of}
+use Rattle.xsfq_cli.proofs.compiling.netlist_of.Goals as goal
+
+pub returns-clause-net : goal.returns-clause-net
+returns-clause-net c =
+    mapped_is_net_of c.equation_runs.ensures.exists c.every_order.ensures.bits _ _ _ _ _ c.in_ok-net.ensures.mapped c.in_ok-net.ensures.few
+    (subst (λ (net : PlainNetlist). IsNetlist net) c.net.ensures.net c.wires.ensures.netlist)

@@ -1,0 +1,100 @@
+-- What the table gives, and what the judgements of commands are.
+use Rattle.std.specs.Prelude.{◌≡◌, ◌⊎◌, ◌↔◌, ◌<◌, ◌≤◌, ◌+◌, ◌-◌, ◌^◌, ◌++◌, ℕ, true, List, Some, None, Result, Ok, length}
+use Rattle.std.specs.Io.KnownBytes.{Consumes}
+use Rattle.byte_ports.specs.Causes.{Rose}
+use Rattle.source_machine.specs.Machines.{PlainMachine}
+use Rattle.cell_netlist.specs.declared.kinds.Ask.{Ask}
+use Rattle.cell_netlist.specs.Netlists.{PlainNetlist}
+use Rattle.cell_netlist.specs.Text.{text_of}
+use Rattle.xsfq_cli.specs.declared.orders.Order.{Order}
+use Rattle.xsfq_cli.specs.declared.orders.Order.TheVariants.{Compile}
+use Rattle.xsfq_cli.specs.declared.outcomes.Outcome.{Outcome}
+use Rattle.xsfq_cli.specs.declared.outcomes.Outcome.TheVariants as outcomes
+use Rattle.xsfq_cli.specs.Headline.{IsCompiled}
+use Rattle.xsfq_cli.specs.Judgements.{reads, shown, Refuses, Writes}
+use Rattle.xsfq_cli.specs.Outcomes.{IsRefusal}
+use Rattle.xsfq_cli.specs.Sources.{HasVerdict, source_shown}
+use Rattle.xsfq_cli.specs.Table.{Input, Output, Answers, ReadWhole, Unread, Unwritten, Wrote}
+
+-- a source has at most one verdict
+abbrev pub OneVerdict : Type 0
+OneVerdict = (bytes : List ℕ) (one other : Result PlainMachine Outcome) → HasVerdict bytes one → HasVerdict bytes other → one ≡ other
+
+-- a command refuses an input by one outcome at the most
+abbrev pub OneRefusal : Type 0
+OneRefusal = (order : Order) (bytes : List ℕ) (one other : Outcome) → Refuses order bytes one → Refuses order bytes other → one ≡ other
+
+-- for an input that is refused there is no text
+abbrev pub RefusedHasNoText : Type 0
+RefusedHasNoText = (order : Order) (bytes text : List ℕ) (refusal ending : Outcome) → Refuses order bytes refusal → Writes order bytes text ending → ⊥
+
+-- what refuses an input is a fault or limit of its bytes, or that they are not built yet
+abbrev pub RefusalsAreOfBytes : Type 0
+RefusalsAreOfBytes = (order : Order) (bytes : List ℕ) (refusal : Outcome) → Refuses order bytes refusal → IsRefusal refusal
+
+-- a refusal that the first bytes of an input show is that of the whole input
+abbrev pub ShownIsRefused : Type 0
+ShownIsRefused = (order : Order) (bytes more : List ℕ) (outcome : Outcome) → shown order bytes ≡ Some outcome → Refuses order (bytes ++ more) outcome
+
+-- the count of a port's faults is below its greatest value, and the port did not fail in the call
+pub record IsCalm (faults faults_now : ℕ) : Type 0 where
+  pub below : faults < 2 ^ 64 - 1
+  pub kept : faults_now ≡ faults
+
+-- words order nothing exactly where the outcome is `Usage`, and then nothing is read or written
+pub record UsageLaw : Type 0 where
+  pub comes : (input : Input) (output : Output) (outcome : Outcome) → Answers None input output outcome → (outcome ≡ outcomes.Usage) × Unread input × Unwritten output
+  pub only : (order : Order) (input : Input) (output : Output) → Answers (Some order) input output outcomes.Usage → ⊥
+
+-- the outcome is `ReadFault` exactly where the input's count of faults rose
+abbrev pub ReadFaultLaw : Type 0
+ReadFaultLaw = (order : Order) (input : Input) (output : Output) (outcome : Outcome) → input.faults < 2 ^ 64 - 1 → Answers (Some order) input output outcome
+    → (outcome ≡ outcomes.ReadFault) ↔ Rose input.faults input.faults_now
+
+-- the outcome is `WriteFault` exactly where the output's count of faults rose
+abbrev pub WriteFaultLaw : Type 0
+WriteFaultLaw = (order : Order) (input : Input) (output : Output) (outcome : Outcome) → output.faults < 2 ^ 64 - 1 → Answers (Some order) input output outcome
+    → (outcome ≡ outcomes.WriteFault) ↔ Rose output.faults output.faults_now
+
+-- after a refusal, a fault of the input and refused memory the output is as it was
+abbrev pub UnwrittenLaw : Type 0
+UnwrittenLaw = (order : Order) (input : Input) (output : Output) (outcome : Outcome) → Answers (Some order) input output outcome
+    → (outcome ≡ outcomes.Done → ⊥) → (outcome ≡ outcomes.WriteFault → ⊥) → Unwritten output
+
+-- where the input tells its bytes and did not fail, a refused input gives its refusal, or memory was refused
+abbrev pub RefusedLaw : Type 0
+RefusedLaw = (order : Order) (input : Input) (output : Output) (outcome refusal : Outcome) (bytes : List ℕ) → reads order ≡ true
+    → input.before ≡ Some bytes → IsCalm input.faults input.faults_now → Answers (Some order) input output outcome → Refuses order bytes refusal
+    → (outcome ≡ refusal) ⊎ (outcome ≡ outcomes.NoMemory)
+
+-- where it tells its bytes and neither port failed, one that is not refused gives its text, whole and flushed, or
+-- memory was refused
+abbrev pub AcceptedLaw : Type 0
+AcceptedLaw = (order : Order) (input : Input) (output : Output) (outcome : Outcome) (bytes : List ℕ) → reads order ≡ true
+    → input.before ≡ Some bytes → IsCalm input.faults input.faults_now → IsCalm output.faults output.faults_now → Answers (Some order) input output outcome
+    → ((refusal : Outcome) → Refuses order bytes refusal → ⊥)
+    → (outcome ≡ outcomes.NoMemory) ⊎ ((text : List ℕ) × Writes order bytes text outcome × Wrote output text)
+
+-- and only its refusal refuses it: an outcome that is a refusal is that of the input's bytes
+abbrev pub OnlyRefusedLaw : Type 0
+OnlyRefusedLaw = (order : Order) (input : Input) (output : Output) (outcome : Outcome) (bytes : List ℕ) → input.before ≡ Some bytes
+    → Answers (Some order) input output outcome → IsRefusal outcome → Refuses order bytes outcome
+
+-- at most 4,096 bytes are taken past the greatest number
+abbrev pub BoundedLaw : Type 0
+BoundedLaw = (order : Order) (input : Input) (output : Output) (outcome : Outcome) → Answers (Some order) input output outcome
+    → (taken : List ℕ) × Consumes input.before input.now taken × (length taken ≤ 2 ^ 26 + 4096)
+
+-- The headline: after `Done` all of a source was read, and the output took exactly the text of one netlist, to which it
+-- was compiled, and was flushed.
+abbrev pub DoneLaw : Type 0
+DoneLaw = (ask : Ask) (input : Input) (output : Output) → Answers (Some (Compile ask)) input output outcomes.Done
+    → (bytes : List ℕ) × ReadWhole source_shown input bytes × (net : PlainNetlist) × IsCompiled ask bytes net × Wrote output (text_of net)
+
+-- Where it tells its bytes and neither port failed, a source whose verdict is a machine is compiled, or memory was
+-- refused.
+abbrev pub MachineLaw : Type 0
+MachineLaw = (ask : Ask) (input : Input) (output : Output) (outcome : Outcome) (bytes : List ℕ) (machine : PlainMachine) → input.before ≡ Some bytes
+    → IsCalm input.faults input.faults_now → IsCalm output.faults output.faults_now → Answers (Some (Compile ask)) input output outcome
+    → HasVerdict bytes (Ok machine)
+    → (outcome ≡ outcomes.NoMemory) ⊎ ((outcome ≡ outcomes.Done) × (net : PlainNetlist) × IsCompiled ask bytes net × Wrote output (text_of net))

@@ -1,0 +1,64 @@
+-- The note of each outcome.
+use Rattle.std.specs.Prelude.{ℕ, List, [], ◌∷◌, ◌++◌, codes, decimal}
+use Rattle.pulse_ids.specs.declared.quantities.Quantity.{Quantity}
+use Rattle.pulse_ids.specs.declared.quantities.Quantity.TheVariants as quantities
+use Rattle.pulse_ids.specs.Quantities.{greatest_of}
+use Rattle.source_machine.specs.declared.places.Place.{Place}
+use Rattle.source_machine.specs.declared.places.Place.TheVariants as places
+use Rattle.aiger_reader.specs.declared.refusals.AigerFault.{AigerFault}
+use Rattle.aiger_reader.specs.declared.refusals.AigerCause.{AigerCause}
+use Rattle.aiger_reader.specs.declared.refusals.AigerCause.TheVariants as causes
+use Rattle.xsfq_cli.specs.declared.outcomes.Outcome.{Outcome}
+use Rattle.xsfq_cli.specs.declared.outcomes.Outcome.TheVariants as outcomes
+
+-- where a fault is, before what it is
+abbrev pub place_text : Place → List ℕ
+place_text (places.Line number) = codes "line " ++ (decimal number ++ codes ": ")
+place_text (places.Byte number) = codes "byte " ++ (decimal number ++ codes ": ")
+place_text places.Whole = []
+
+-- what is wrong with an AIGER source
+abbrev pub aiger_text : AigerCause → List ℕ
+aiger_text causes.BadHeader = codes "bad header"
+aiger_text (causes.Property letter) = codes "property " ++ letter ∷ []
+aiger_text causes.BadLine = codes "bad line"
+aiger_text (causes.OutOfRange literal) = codes "literal out of range: " ++ decimal literal
+aiger_text (causes.NoFixedInit latch) = codes "no fixed initial value: latch " ++ decimal latch
+aiger_text causes.BadDelta = codes "bad delta"
+aiger_text causes.SymbolRange = codes "symbol out of range"
+aiger_text causes.Truncated = codes "truncated"
+aiger_text (causes.DoubleDriver name) = codes "driven twice: " ++ name
+aiger_text (causes.Undriven name) = codes "undriven: " ++ name
+aiger_text (causes.Cycle name) = codes "combinational cycle through " ++ name
+
+-- the things that are counted
+abbrev pub quantity_text : Quantity → List ℕ
+quantity_text quantities.SourceBytes = codes "source bytes"
+quantity_text quantities.NetBytes = codes "netlist bytes"
+quantity_text quantities.TailBytes = codes "bytes after the netlist"
+quantity_text quantities.Inputs = codes "inputs"
+quantity_text quantities.Outputs = codes "outputs"
+quantity_text quantities.Latches = codes "latches"
+quantity_text quantities.Nets = codes "nets"
+quantity_text quantities.Size = codes "size"
+quantity_text quantities.NameBytes = codes "name bytes"
+quantity_text quantities.Wires = codes "wires"
+quantity_text quantities.Vectors = codes "vectors"
+
+-- the line of a fault of an AIGER source, and that of a limit
+abbrev pub fault_line : AigerFault → List ℕ
+fault_line fault = codes "source: " ++ (place_text fault.place ++ (aiger_text fault.cause ++ 10 ∷ []))
+
+abbrev pub limit_line : Quantity → List ℕ
+limit_line quantity = codes "limit: more than " ++ (decimal (greatest_of quantity) ++ (codes " of " ++ (quantity_text quantity ++ 10 ∷ [])))
+
+-- the line of an outcome with its line feed, and nothing after `Done`
+abbrev pub note_of : Outcome → List ℕ
+note_of outcomes.Done = []
+note_of outcomes.Usage = codes "usage: compile, check, simulate, report or workload\n"
+note_of (outcomes.Aiger fault) = fault_line fault
+note_of (outcomes.Limit quantity) = limit_line quantity
+note_of outcomes.ReadFault = codes "read failed\n"
+note_of outcomes.WriteFault = codes "write failed\n"
+note_of outcomes.NoMemory = codes "no memory\n"
+note_of outcomes.NotBuilt = codes "not built yet\n"

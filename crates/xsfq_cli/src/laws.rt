@@ -1,0 +1,51 @@
+//! What the table of answers gives. These functions do nothing: their clauses are the laws.
+
+ghost use Rattle.xsfq_cli.specs.Laws.{AcceptedLaw, BoundedLaw, DoneLaw, MachineLaw, OneRefusal, OneVerdict, OnlyRefusedLaw, ReadFaultLaw, RefusalsAreOfBytes, RefusedHasNoText, RefusedLaw, ShownIsRefused, UnwrittenLaw, UsageLaw, WriteFaultLaw};
+ghost use Rattle.xsfq_cli.specs.Examples.{WordsAreOrders};
+
+use aiger_reader::early_refusals_stand;
+use source_machine::one_verdict;
+
+/// What a command makes of an input is one thing: one verdict of a source, one refusal of an input, and none where
+/// there is a text for it. A refusal is one of the bytes. What the first bytes show is the refusal of the whole.
+pub fn one_judgement()
+    ensures verdict { OneVerdict }
+    ensures refusal { OneRefusal }
+    ensures no_text { RefusedHasNoText }
+    ensures of_bytes { RefusalsAreOfBytes }
+    ensures shown { ShownIsRefused }
+{
+    one_verdict();
+    early_refusals_stand();
+}
+
+/// Each outcome comes exactly where the table says. Words that order nothing are `Usage`; a fault of a port is
+/// the port's own outcome; a refusal of the input is its judgement; where nothing refuses it and no port failed,
+/// its text is written. Refused memory may stand in place of the last two, and nothing was written then.
+pub fn each_outcome_has_its_cause()
+    ensures usage { UsageLaw }
+    ensures read_fault { ReadFaultLaw }
+    ensures write_fault { WriteFaultLaw }
+    ensures unwritten { UnwrittenLaw }
+    ensures refused { RefusedLaw }
+    ensures accepted { AcceptedLaw }
+    ensures only { OnlyRefusedLaw }
+    ensures bounded { BoundedLaw }
+{
+    one_judgement();
+}
+
+/// The headline of `compile`, as the table gives it: what stands after `Done`, and that each source whose verdict
+/// is a machine comes there, unless a port failed or memory was refused.
+pub fn machines_are_compiled()
+    ensures done { DoneLaw }
+    ensures machine { MachineLaw }
+{
+    one_judgement();
+    each_outcome_has_its_cause();
+}
+
+/// What some words order.
+pub fn words_are_orders()
+    ensures { WordsAreOrders }
+{}

@@ -17,7 +17,7 @@ const HALF_ADDER: &str = "xsfq 1\nports 2 2\ninput 0 p 0\ninput 0 n 1\ninput 1 p
     split 0 4 5\nsplit 2 6 7\nla 4 6 8\nfa 1 3 9\nfa 5 7 10\nla 9 10 11\noutput 0 p 11\noutput 1 p 8\n\
     iname 0 x\niname 1 y\noname 0 s\noname 1 c\nend\n";
 
-const CIRCUITS: [Circuit; 26] = [
+const CIRCUITS: [Circuit; 28] = [
     // No lines at all.
     Circuit {
         words: COMPILE,
@@ -103,6 +103,17 @@ const CIRCUITS: [Circuit; 26] = [
         words: COMPILE,
         source: b"aig 71 70 0 1 1\n142\n\x8a\x01\x02",
         netlist: "xsfq 1\nports 70 1\ninput 0 p 0\ninput 1 p 1\nla 0 1 2\noutput 0 p 2\nend\n",
+    },
+    // Both spellings of one circuit.
+    Circuit {
+        words: COMPILE,
+        source: b"aag 3 2 0 1 1\n2\n4\n6\n6 4 2\n",
+        netlist: "xsfq 1\nports 2 1\ninput 0 p 0\ninput 1 p 1\nla 0 1 2\noutput 0 p 2\nend\n",
+    },
+    Circuit {
+        words: COMPILE,
+        source: b"aig 3 2 0 1 1\n6\n\x02\x02",
+        netlist: "xsfq 1\nports 2 1\ninput 0 p 0\ninput 1 p 1\nla 0 1 2\noutput 0 p 2\nend\n",
     },
     // Latches: a toggle flip-flop, and one that holds its bit.
     Circuit {

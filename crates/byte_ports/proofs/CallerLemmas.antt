@@ -1,5 +1,37 @@
 -- What a sink took of a text of several pieces, from what it took of each, and what writing them comes to.
-use Rattle.std.proofs.Common.{ℕ, zero, suc, ◌<◌, ◌≡◌, List, [], ◌∷◌, ◌++◌, length, take, drop, get_or, Result, Ok, Err, IsErr, IsOk, refl, sym, ap, subst, ◌∙◌, arith, append_assoc, append-nil}
+use Rattle.std.proofs.Common.{
+  ℕ,
+  zero,
+  suc,
+  ◌+◌,
+  ◌-◌,
+  ◌<◌,
+  ◌≤◌,
+  ◌≡◌,
+  List,
+  [],
+  ◌∷◌,
+  ◌++◌,
+  length,
+  take,
+  drop,
+  get_or,
+  Result,
+  Ok,
+  Err,
+  IsErr,
+  IsOk,
+  refl,
+  sym,
+  ap,
+  subst,
+  ◌∙◌,
+  arith,
+  append_assoc,
+  append-nil,
+  take-append-drop,
+}
+use Rattle.std.proofs.lemmas.List.{take-take, drop-take, take_rest}
 use Rattle.std.specs.List.{flat_map}
 use Rattle.std.specs.declared.option.Option.{Option}
 use Rattle.std.specs.Io.KnownBytes.{Appends, Keeps}
@@ -7,6 +39,23 @@ use Rattle.std.proofs.KnownBytes.{Appends-trans, Appends-kept, Appends-nil}
 use Rattle.byte_ports.specs.Causes.{Rose}
 use Rattle.byte_ports.specs.Prefixes.{TookPrefix}
 use Rattle.byte_ports.specs.Writing.{WritesText}
+
+-- the first bytes, and then some of the rest
+take_further : (at count : ℕ) (piece : List ℕ) → take at piece ++ take count (drop at piece) ≡ take (at + count) piece
+take_further at count piece =
+    let within : at ≤ at + count = omega arith in
+    let whole = take (at + count) piece in
+    sym (ap (λ l. l ++ take count (drop at piece)) (take-take at (at + count) piece within))
+    ∙ sym (ap (λ l. take at whole ++ l) (drop-take at count piece))
+    ∙ take-append-drop at whole
+
+-- a write of the rest of a piece takes the sink further
+pub grown_further : (a b c : Option (List ℕ)) (at count : ℕ) (piece : List ℕ) → Appends a b (take at piece)
+    → Appends b c (take count (take (length piece - at) (drop at piece))) → Appends a c (take (at + count) piece)
+grown_further a b c at count piece first more =
+    subst (Appends a c) (take_further at count piece)
+    (Appends-trans a b c (take at piece) (take count (drop at piece)) first
+    (subst (λ l. Appends b c (take count l)) (take_rest piece at) more))
 
 -- nothing was taken
 pub prefix_of_none : (a b : Option (List ℕ)) (piece : List ℕ) → Keeps a b → TookPrefix a b piece

@@ -77,7 +77,7 @@ fn refusals_are_told_at_once(rt: HostRuntime) -> Result<(), Fail> {
 
 #[test]
 fn other_words_are_refused(rt: HostRuntime) -> Result<(), Fail> {
-    let texts: [&[&str]; 11] = [
+    let texts: [&[&str]; 12] = [
         &[],
         &["Compile"],
         &["compile", "compile"],
@@ -87,7 +87,8 @@ fn other_words_are_refused(rt: HostRuntime) -> Result<(), Fail> {
         &["compile", "--rails", "p", "n"],
         &["compile", "--order", "first"],
         &["--rails", "p", "compile"],
-        &["check"],
+        &["Check"],
+        &["check", "check"],
         &["check", "--rails", "p"],
     ];
     for texts in texts {

@@ -180,6 +180,7 @@ const CIRCUITS: [Circuit; 28] = [
     },
 ];
 
+// Each is compiled to its netlist, which is read back and found sound.
 #[test]
 fn circuits_compile(rt: HostRuntime) -> Result<(), Fail> {
     for circuit in CIRCUITS {
@@ -190,6 +191,9 @@ fn circuits_compile(rt: HostRuntime) -> Result<(), Fail> {
             assert!(rt; result.output.flushed());
             assert_eq!(rt; result.notes.taken().len(), 0);
         }
+        let netlist = circuit.netlist.as_bytes();
+        let checked = run_words(rt.alloc(), &["check"], netlist, 5, &[], &[])?;
+        assert_eq!(rt; checked.outcome.code(), 0);
     }
     Ok(())
 }

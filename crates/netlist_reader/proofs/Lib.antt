@@ -1,5 +1,6 @@
 -- The proofs of the reader of netlist texts.
 pub mod Bools
+pub mod CallerLemmas
 pub mod Memory
 pub mod PortNames
 pub mod Steps

@@ -29,7 +29,7 @@ impl Model for NetReader {
 }
 
 impl NetReader {
-    ghost use Rattle.std.specs.Prelude.{◌≡◌, ◌≤◌, ◌++◌, [], ℕ, List, false, Some, None, Ok, Err, IfOk, IfErr, OnErr, length, take};
+    ghost use Rattle.std.specs.Prelude.{◌≡◌, ◌≤◌, ◌^◌, ◌++◌, [], ℕ, List, false, Some, None, Ok, Err, IfOk, IfErr, OnOk, OnErr, length, take};
     ghost use Rattle.word_scan.specs.Lines.{whole_lines};
     ghost use Rattle.netlist_reader.specs.declared.refusals.NetRefusal.{NetRefusal};
     ghost use Rattle.netlist_reader.specs.Places.{inputs_of, has_end};
@@ -58,6 +58,7 @@ impl NetReader {
         ensures ok { IfOk result (λ fed. (text : List ℕ) → IsReading text self.old → IsReading (text ++ take fed.used piece.now) self.new) }
         ensures err { OnErr result ((text : List ℕ) → IsReading text self.old → IsReading (text ++ piece.now) self.new) }
         ensures early { (text : List ℕ) → IsReading text self.old → Answers result (early (text ++ piece.now)) }
+        ensures goes_on { OnOk result (self.new.stopped ≡ None) }
         ensures kept { IfErr result (λ refusal. self.new.stopped ≡ Some refusal) }
         ensures again { (refusal : NetRefusal) → self.old.stopped ≡ Some refusal → result ≡ Err refusal }
     {
@@ -74,10 +75,12 @@ impl NetReader {
         finished(self.reading)
     }
 
-    /// The number of whole lines that were taken. Of a reader that refused a line it is the number of those before.
+    /// The number of whole lines that were taken, which is at most 2^27 where the reader goes on. Of a reader that refused a
+    /// line it is the number of those before.
     pub fn lines(&self) -> u32
         ensures value { result ≡ self.now.built.lines }
         ensures lines { (text : List ℕ) → IsReading text self.now → self.now.stopped ≡ None → result ≡ length (whole_lines text) }
+        ensures few { self.now.stopped ≡ None → result ≤ 2 ^ 27 }
     {
         self.reading.built.lines
     }

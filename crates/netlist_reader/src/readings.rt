@@ -1,6 +1,6 @@
 //! A text that was read up to some byte.
 
-ghost use Rattle.std.specs.Prelude.{◌≡◌, ◌≤◌, ◌+◌, ◌-◌, ◌++◌, ℕ, List, false, Some, Ok, Err, IfOk, IfErr, OnOk, OnErr, length, take, []};
+ghost use Rattle.std.specs.Prelude.{◌≡◌, ◌≤◌, ◌+◌, ◌-◌, ◌++◌, ℕ, List, false, Some, None, Ok, Err, IfOk, IfErr, OnOk, OnErr, length, take, []};
 ghost use Rattle.word_scan.specs.Reading.{HasRead};
 ghost use Rattle.netlist_reader.specs.declared.refusals.NetRefusal.{NetRefusal};
 ghost use Rattle.netlist_reader.specs.Places.{has_end};
@@ -87,6 +87,7 @@ pub(crate) fn take_more(
     ensures ok { IfOk result (λ fed. (text : List ℕ) → IsReading text reading.old → IsReading (text ++ take fed.used piece.now) reading.new) }
     ensures err { OnErr result ((text : List ℕ) → IsReading text reading.old → IsReading (text ++ piece.now) reading.new) }
     ensures early { (text : List ℕ) → IsReading text reading.old → Answers result (early (text ++ piece.now)) }
+    ensures goes_on { OnOk result (reading.new.stopped ≡ None) }
     ensures kept { IfErr result (λ refusal. reading.new.stopped ≡ Some refusal) }
     ensures again { (refusal : NetRefusal) → reading.old.stopped ≡ Some refusal → result ≡ Err refusal }
 {

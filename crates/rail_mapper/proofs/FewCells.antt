@@ -61,6 +61,25 @@ constant_few false = (omega arith, refl, refl)
 pairs_few : (built : PlainBuilt) (demand : PlainDemand) → pairs_for built demand ≤ built.graph.latches
 pairs_few built demand = picked_few (λ latch. is_needed demand (1 + built.graph.inputs + latch) Pos || is_needed demand (1 + built.graph.inputs + latch) Neg) 0 built.graph.latches
 
+constant_role : (b : Bool) → roles_in Const (if b then Const ∷ [] else []) ≡ (if b then 1 else 0)
+constant_role true = refl
+constant_role false = refl
+
+-- there is one constant where a rail of it is needed, and else none; and as many backs as latches of which a rail is needed
+pub role_counts : (built : PlainBuilt) (demand : PlainDemand)
+    → (roles_in Const (roles_for built demand) ≡ (if is_needed demand 0 Pos || is_needed demand 0 Neg then 1 else 0)) × (roles_in Back (roles_for built demand) ≡ pairs_for built demand)
+role_counts built demand = (
+  (let p = parts Const in let b = same_roles Const Back k in let f = same_roles Const Front k in let c = constant_role (is_needed demand 0 Pos || is_needed demand 0 Neg) in omega arith),
+  let p = parts Back in let b = same_roles Back Back k in let f = same_roles Back Front k in let c = constant_few (is_needed demand 0 Pos || is_needed demand 0 Neg) in
+      omega (arith, c.1),
+)
+  where
+    k : ℕ
+    k = pairs_for built demand
+
+    parts : (kind : Role) → roles_in kind (roles_for built demand) ≡ roles_in kind (constant_for demand) + (roles_in kind (replicate k Back) + roles_in kind (replicate k Front))
+    parts kind = let a = roles-append kind (constant_for demand) (replicate k Back ++ replicate k Front) in let b = roles-append kind (replicate k Back) (replicate k Front) in omega arith
+
 pub few_cells : (machine : PlainMachine) (built : PlainBuilt) (demand : PlainDemand) (net : PlainNetlist) → IsGraphOf machine built → HasCells built demand net → HasFewCells machine net
 few_cells machine built demand net graph h = record {
   las = rw h.gates (let g = gates_few La demand (first_conjunction built.graph) (length built.graph.pairs) in omega (arith, graph.small));

@@ -8,6 +8,7 @@ use Rattle.pulse_ids.specs.Lists.{occurrences}
 use Rattle.pulse_ids.specs.declared.literals.Sign.{Sign}
 use Rattle.pulse_ids.specs.declared.literals.Sign.TheVariants.{Pos, Neg}
 use Rattle.cell_netlist.specs.declared.kinds.Ask.{Ask}
+use Rattle.cell_netlist.specs.declared.lines.Rail.{Rail}
 use Rattle.cell_netlist.specs.Asked.{rail_of}
 use Rattle.cell_netlist.specs.Netlists.{PlainNetlist, number_of_wires}
 use Rattle.cell_netlist.proofs.CallerLemmas.{number_of_wires-input}
@@ -28,6 +29,7 @@ use Rattle.rail_mapper.proofs.ConstStage.{held_constant}
 use Rattle.rail_mapper.proofs.RailUses.{other_rail}
 use Rattle.rail_mapper.proofs.HeldSteps.{held_skipped, held_grown_if, stage_held}
 use Rattle.rail_mapper.proofs.InputSteps.{held_added}
+use Rattle.rail_mapper.proofs.PortSteps.{constant_keeps, grow_if_keeps}
 use Rattle.rail_mapper.proofs.Rooms.{less_room, constant_room}
 use Rattle.rail_mapper.proofs.StageSteps.{node_of, sign_of}
 
@@ -131,6 +133,10 @@ module _ (built : PlainBuilt) (demand : PlainDemand) (ask : Ask) where
   no_input_reads : (port : ℕ) (sign : Sign) → slice_get (nodes_of built.graph) (1 + port) ≡ Some (Input port) → rail_uses built demand (rail_number (1 + port) sign) ≡ []
   no_input_reads port sign stands = other_rail built demand (1 + port) sign (Input port) stands refl
 
+  held_length : (b : Bool) (wire rail : ℕ) → length (held_if b wire rail) ≡ wires_for b
+  held_length true wire rail = refl
+  held_length false wire rail = refl
+
   -- a tree of an input's rail, where it is to be read
   pub tree_one : (count port wire next : ℕ) (sign : Sign) (before after : PlainDraft) → rail_number (1 + port) sign ≡ 2 + count
       → slice_get (nodes_of built.graph) (1 + port) ≡ Some (Input port) → count < 2 * built.graph.inputs
@@ -143,6 +149,14 @@ module _ (built : PlainBuilt) (demand : PlainDemand) (ask : Ask) where
         (held_grown_if built demand ask (2 + count) (omega arith) (subst (λ (r : ℕ). rail_uses built demand r ≡ []) number (no_input_reads port sign stands)) before after wire
         (held_from all_uses wire (range_with_len (2 + count) (2 * built.graph.inputs - count)))
         (held_from all_uses next (range_with_len (2 + count + 1) (2 * built.graph.inputs - (count + 1)))) h.held with_root without (subst (λ (r : ℕ). GrowsIf r wire before after) number grows));
+    all_inputs = let whole = ap (λ (l : List (ℕ × ℕ)). length l) opened in let one = held_length (is_read all_uses (2 + count)) wire (2 + count) in
+        let both = length-append (held_if (is_read all_uses (2 + count)) wire (2 + count)) (held_from all_uses next (range_with_len (2 + count + 1) (2 * built.graph.inputs - (count + 1)))) in
+        let kept = ap (λ (l : List Rail). length l) (grow_if_keeps (rail_number (1 + port) sign) wire before after grows).others.input_rails in
+        let was = h.all_inputs in
+        let turned : length (held_from all_uses next (range_with_len (2 + (count + 1)) (2 * built.graph.inputs - (count + 1))))
+        ≡ length (held_from all_uses next (range_with_len (2 + count + 1) (2 * built.graph.inputs - (count + 1)))) =
+        (let z : 2 + (count + 1) ≡ 2 + count + 1 = omega arith in ap (λ (r : ℕ). length (held_from all_uses next (range_with_len r (2 * built.graph.inputs - (count + 1))))) z) in
+        omega (arith, next_is, whole, one, both, kept, was, turned);
     no_pending = grows_pending (rail_number (1 + port) sign) wire before after grows ∙ h.no_pending;
     room = room;
   }
@@ -198,6 +212,9 @@ module _ (built : PlainBuilt) (demand : PlainDemand) (ask : Ask) where
       → TreesAt built demand ask 0 0 after
   const_one before after few h adds = record {
     held = subst (λ (k : ℕ). IsHeld built demand ask 2 (held_from all_uses 0 (range_with_len 2 k)) after) (let z : 2 * built.graph.inputs ≡ 2 * built.graph.inputs - 0 = omega arith in z) (by adds);
+    all_inputs = let z : 2 * built.graph.inputs - 0 ≡ 2 * built.graph.inputs = omega arith in
+        let same = ap (λ (k : ℕ). length (held_from all_uses 0 (range_with_len 2 k))) z in
+        let kept = ap (λ (l : List Rail). length l) (constant_keeps before after adds).others.input_rails in omega (arith, h.wires, h.each, same, kept);
     no_pending = same_pending adds ∙ h.no_pending;
     room = roomy adds;
   }

@@ -1,5 +1,5 @@
 -- What each step adds to the lines of a draft.
-use Rattle.std.proofs.Common.{◌≡◌, ◌+◌, inl, inr, ℕ, zero, suc, Bool, List, [], ◌∷◌, ◌++◌, length, replicate, ap, sym, subst, ◌∙◌, refl, arith, append_assoc, append-nil}
+use Rattle.std.proofs.Common.{◌≡◌, ◌≤◌, ◌+◌, inl, inr, ℕ, zero, suc, Bool, List, [], ◌∷◌, ◌++◌, length, replicate, nat_lt, ap, sym, subst, ◌∙◌, refl, arith, append_assoc, append-nil}
 use Rattle.std.specs.List.{flat_map}
 use Rattle.std.proofs.lemmas.Grind.{flat_map-append}
 use Rattle.std.proofs.lemmas.List.{length-append}
@@ -16,12 +16,17 @@ use Rattle.splitter_trees.specs.Spreading.{IsSplitter, with_cells}
 use Rattle.droc_pairs.specs.Pairs.{begun_back, front_of}
 use Rattle.droc_pairs.specs.Constants.{HasTreeIfRead, with_tree, without}
 use Rattle.rail_mapper.specs.Cells.{gate_in, role_in}
-use Rattle.rail_mapper.specs.Drafts.{PlainDraft, Takes, Grows, Gated, gate_cell, with_cell}
+use Rattle.rail_mapper.specs.Drafts.{PlainDraft, readers_of, Takes, Grows, Gated, gate_cell, with_cell}
+use Rattle.rail_mapper.specs.FanOuts.{AreFannedOut}
 use Rattle.rail_mapper.specs.FrontStages.{FinishesFirst}
 use Rattle.rail_mapper.specs.InputStages.{HasConstant}
 use Rattle.rail_mapper.specs.Lines.{AddsLines, KeepsCells}
 use Rattle.rail_mapper.specs.OutputStages.{PutsOutputs}
 use Rattle.rail_mapper.specs.Stages.{GrowsIf, grown, bare, begun_draft, BeginsLatch, unread, started}
+use Rattle.rail_mapper.proofs.ConstantFanOuts.{constant_fanned_out}
+use Rattle.rail_mapper.proofs.FanOuts.{IsBare}
+use Rattle.rail_mapper.proofs.FanOutCells.{front_fanned_out}
+use Rattle.rail_mapper.proofs.FanOutSteps.{grow_fanned_out, gate_line_fanned_out, gate_bare, first_bare, second_bare, back_fanned_out}
 use Rattle.rail_mapper.proofs.InputStageLemmas.{grows_pending}
 use Rattle.rail_mapper.proofs.PortSteps.{ports_same, ports_on, cells_keep, take_keeps, inputs_same, inputs_on, output_keeps}
 use Rattle.rail_mapper.proofs.ShelfLemmas.{replicate_last}
@@ -33,6 +38,7 @@ lines_same draft = record {
   ports = ports_same draft;
   gates_added = sym (append-nil (flat_map gate_in draft.net.cells));
   roles_added = sym (append-nil (flat_map role_in draft.net.cells));
+  fanned_out = λ h. h;
 }
 
 pub lines_on : (gates more : List Gate) (roles rest : List Role) (one two three : PlainDraft) → AddsLines gates roles one two → AddsLines more rest two three
@@ -41,14 +47,17 @@ lines_on gates more roles rest one two three a b = record {
   ports = ports_on one two three a.ports b.ports;
   gates_added = b.gates_added ∙ ap (λ (l : List Gate). l ++ more) a.gates_added ∙ append_assoc (flat_map gate_in one.net.cells) gates more;
   roles_added = b.roles_added ∙ ap (λ (l : List Role). l ++ rest) a.roles_added ∙ append_assoc (flat_map role_in one.net.cells) roles rest;
+  fanned_out = λ h. b.fanned_out (a.fanned_out h);
 }
 
 -- cells behind the others
-cells_lines : (before after : PlainDraft) (cells : List Cell) → after.net ≡ with_cells before.net cells → AddsLines (flat_map gate_in cells) (flat_map role_in cells) before after
-cells_lines before after cells e = record {
+cells_lines : (before after : PlainDraft) (cells : List Cell) → after.net ≡ with_cells before.net cells → (AreFannedOut before.net → AreFannedOut after.net)
+    → AddsLines (flat_map gate_in cells) (flat_map role_in cells) before after
+cells_lines before after cells e fan = record {
   ports = cells_keep before after (before.net.cells ++ cells) e;
   gates_added = ap (λ (net : PlainNetlist). flat_map gate_in net.cells) e ∙ flat_map-append gate_in before.net.cells cells;
   roles_added = ap (λ (net : PlainNetlist). flat_map role_in net.cells) e ∙ flat_map-append role_in before.net.cells cells;
+  fanned_out = fan;
 }
 
 -- splitters are no gates and have no role
@@ -59,10 +68,12 @@ splitters_alone ((Fa a b out) ∷ cells) all = absurd (all (Fa a b out) (inl ref
 splitters_alone ((Split from left right) ∷ cells) all = splitters_alone cells (λ cell m. all cell (inr m))
 splitters_alone ((Droc role preload feed q n) ∷ cells) all = absurd (all (Droc role preload feed q n) (inl refl))
 
-splitters_lines : (before after : PlainDraft) (cells : List Cell) → after.net ≡ with_cells before.net cells → ((cell : Cell) → IsIn cell cells → IsSplitter cell) → AddsLines [] [] before after
-splitters_lines before after cells e all =
+splitters_lines : (before after : PlainDraft) (cells : List Cell) → after.net ≡ with_cells before.net cells → ((cell : Cell) → IsIn cell cells → IsSplitter cell)
+    → (AreFannedOut before.net → AreFannedOut after.net) → AddsLines [] [] before after
+splitters_lines before after cells e all fan =
     let s = splitters_alone cells all in
-    subst (λ (l : List Gate). AddsLines l [] before after) s.0 (subst (λ (l : List Role). AddsLines (flat_map gate_in cells) l before after) s.1 (cells_lines before after cells e))
+    subst (λ (l : List Gate). AddsLines l [] before after) s.0
+    (subst (λ (l : List Role). AddsLines (flat_map gate_in cells) l before after) s.1 (cells_lines before after cells e fan))
 
 equal_lines : (before after : PlainDraft) → after ≡ before → AddsLines [] [] before after
 equal_lines before after e = subst (λ (d : PlainDraft). AddsLines [] [] before d) (sym e) (lines_same before)
@@ -72,34 +83,39 @@ take_lines rail wire before after take = record {
   ports = take_keeps rail wire before after take;
   gates_added = ap (λ (d : PlainDraft). flat_map gate_in d.net.cells) take.taken ∙ sym (append-nil (flat_map gate_in before.net.cells));
   roles_added = ap (λ (d : PlainDraft). flat_map role_in d.net.cells) take.taken ∙ sym (append-nil (flat_map role_in before.net.cells));
+  fanned_out = λ h. subst (λ (d : PlainDraft). AreFannedOut d.net) (sym take.taken) h;
 }
 
-grow_lines : (rail root : ℕ) (before after : PlainDraft) → Grows rail root before after → AddsLines [] [] before after
-grow_lines rail root before after grow = splitters_lines before after grow.spread.cells grow.spread.added grow.spread.spreads.all_split
+grow_lines : (rail root : ℕ) (before after : PlainDraft) → Grows rail root before after → IsBare before.net root → AddsLines [] [] before after
+grow_lines rail root before after grow is =
+    splitters_lines before after grow.spread.cells grow.spread.added grow.spread.spreads.all_split (grow_fanned_out rail root before after grow is)
 
-pub grow_if_lines : (rail root : ℕ) (before after : PlainDraft) → GrowsIf rail root before after → AddsLines [] [] before after
-grow_if_lines rail root before after (grown some grow) = grow_lines rail root before after grow
-grow_if_lines rail root before after (bare none e) = equal_lines before after e
+pub grow_if_lines : (rail root : ℕ) (before after : PlainDraft) → GrowsIf rail root before after → (1 ≤ readers_of before rail → IsBare before.net root) → AddsLines [] [] before after
+grow_if_lines rail root before after (grown some grow) is = grow_lines rail root before after grow (is some)
+grow_if_lines rail root before after (bare none e) is = equal_lines before after e
 
 -- a gate
 one_gate : (gate : Gate) (a b out : ℕ) → (flat_map gate_in (gate_cell gate a b out ∷ []) ≡ gate ∷ []) × (flat_map role_in (gate_cell gate a b out ∷ []) ≡ [])
 one_gate gates.La a b out = (refl, refl)
 one_gate gates.Fa a b out = (refl, refl)
 
-gate_line : (gate : Gate) (a b out : ℕ) (draft : PlainDraft) → AddsLines (gate ∷ []) [] draft (with_cell draft (gate_cell gate a b out))
-gate_line gate a b out draft =
+gate_line : (gate : Gate) (a b out : ℕ) (draft : PlainDraft) → out ≡ number_of_wires draft.net → AddsLines (gate ∷ []) [] draft (with_cell draft (gate_cell gate a b out))
+gate_line gate a b out draft is =
     let o = one_gate gate a b out in
     subst (λ (l : List Gate). AddsLines l [] draft (with_cell draft (gate_cell gate a b out))) o.0
     (subst (λ (l : List Role). AddsLines (flat_map gate_in (gate_cell gate a b out ∷ [])) l draft (with_cell draft (gate_cell gate a b out))) o.1
-    (cells_lines draft (with_cell draft (gate_cell gate a b out)) (gate_cell gate a b out ∷ []) refl))
+    (cells_lines draft (with_cell draft (gate_cell gate a b out)) (gate_cell gate a b out ∷ []) refl (gate_line_fanned_out gate a b out draft is)))
 
 pub gate_lines : (gate : Gate) (low high rail : ℕ) (before after : PlainDraft) → Gated gate low high rail before after → AddsLines (gate ∷ []) [] before after
 gate_lines gate low high rail before after gated =
     let out = number_of_wires before.net in
     let made = with_cell gated.two (gate_cell gate gated.a gated.b out) in
+    let is : out ≡ number_of_wires gated.two.net = sym (ap (λ (d : PlainDraft). number_of_wires d.net) gated.high_taken.taken
+    ∙ ap (λ (d : PlainDraft). number_of_wires d.net) gated.low_taken.taken) in
     lines_on [] (gate ∷ []) [] [] before gated.one after (take_lines low gated.a before gated.one gated.low_taken)
     (lines_on [] (gate ∷ []) [] [] gated.one gated.two after (take_lines high gated.b gated.one gated.two gated.high_taken)
-    (lines_on (gate ∷ []) [] [] [] gated.two made after (gate_line gate gated.a gated.b out gated.two) (grow_lines rail out made after gated.grown)))
+    (lines_on (gate ∷ []) [] [] [] gated.two made after (gate_line gate gated.a gated.b out gated.two is)
+    (grow_lines rail out made after gated.grown (gate_bare gate gated.a gated.b out gated.two is))))
 
 -- a constant with its trees
 tree_alone : (next from readers : ℕ) (cells : List Cell) (leaves : List ℕ) → HasTreeIfRead next from readers cells leaves → (flat_map gate_in cells ≡ []) × (flat_map role_in cells ≡ [])
@@ -117,24 +133,25 @@ constant_lines before after h =
     ∙ none.1 in
     subst (λ (l : List Gate). AddsLines l (Const ∷ []) before after) gates_are
     (subst (λ (l : List Role). AddsLines (flat_map gate_in (c.one_cells ++ c.zero_cells)) (Const ∷ l) before after) roles_are
-    (cells_lines before after _ c.added))
+    (cells_lines before after _ c.added (constant_fanned_out before.net after.net _ _ h.one h.none c)))
 
--- a back, where a rail of its latch is read
-begun_lines : (draft : PlainDraft) (latch : ℕ) (init q n : Bool) → AddsLines [] (Back ∷ []) draft (begun_draft draft latch init q n)
-begun_lines draft latch init q n = cells_lines draft (begun_draft draft latch init q n) (begun_back (number_of_wires draft.net) init q n ∷ []) refl
-
--- the backs of all pairs that wait
-pub backs_lines : (latch : ℕ) (init : Bool) (pos neg : ℕ) (first before after : PlainDraft) → AddsLines [] (replicate (length before.pending) Back) first before
-    → BeginsLatch latch init pos neg before after
-    → AddsLines [] (replicate (length after.pending) Back) first after
-backs_lines latch init pos neg first before after h (unread no_pos no_neg e) = subst (λ (d : PlainDraft). AddsLines [] (replicate (length d.pending) Back) first d) (sym e) h
-backs_lines latch init pos neg first before after h (started b) =
+-- the backs of all pairs that wait, where a rail of a latch is read
+pub backs_lines : (latch : ℕ) (init : Bool) (pos neg : ℕ) (first before after : PlainDraft) → (pos ≡ neg → ⊥) → AddsLines [] (replicate (length before.pending) Back) first before
+    → BeginsLatch latch init pos neg before after → AddsLines [] (replicate (length after.pending) Back) first after
+backs_lines latch init pos neg first before after apart h (unread no_pos no_neg e) = subst (λ (d : PlainDraft). AddsLines [] (replicate (length d.pending) Back) first d) (sym e) h
+backs_lines latch init pos neg first before after apart h (started b) =
     subst (λ (l : List Role). AddsLines [] l first after) (replicate_last (length before.pending) Back ∙ ap (λ (k : ℕ). replicate k Back) (sym one_more))
     (lines_on [] [] (replicate (length before.pending) Back) (Back ∷ []) first before after h
     (lines_on [] [] (Back ∷ []) [] before b.middle after
-    (lines_on [] [] (Back ∷ []) [] before (begun_draft before latch init _ _) b.middle (begun_lines before latch init _ _) (grow_if_lines pos _ _ b.middle b.first))
-    (grow_if_lines neg _ b.middle after b.second)))
+    (lines_on [] [] (Back ∷ []) [] before (begun_draft before latch init _ _) b.middle begun_lines
+    (grow_if_lines pos _ _ b.middle b.first (first_bare latch init pos neg before after b apart)))
+    (grow_if_lines neg _ b.middle after b.second (second_bare latch init pos neg before after b apart))))
   where
+    begun_lines : AddsLines [] (Back ∷ []) before (begun_draft before latch init (nat_lt 0 (readers_of before pos)) (nat_lt 0 (readers_of before neg)))
+    begun_lines = cells_lines before (begun_draft before latch init (nat_lt 0 (readers_of before pos)) (nat_lt 0 (readers_of before neg)))
+        (begun_back (number_of_wires before.net) init (nat_lt 0 (readers_of before pos)) (nat_lt 0 (readers_of before neg)) ∷ []) refl
+        (back_fanned_out latch init pos neg before after b apart)
+
     one_more : length after.pending ≡ length before.pending + 1
     one_more =
         let a = ap (λ (l : List (ℕ × ℕ)). length l) (grows_pending neg _ b.middle after b.second ∙ grows_pending pos _ (begun_draft before latch init _ _) b.middle b.first) in
@@ -165,6 +182,7 @@ front_lines rail init before after f =
       roles_added = ap (λ (net : PlainNetlist). flat_map role_in net.cells) same
           ∙ (fed_lines f.waits.place (numbered (number_of_wires f.finishes.middle.net)) (f.finishes.middle.net.cells ++ front ∷ [])).1
           ∙ flat_map-append role_in f.finishes.middle.net.cells (front ∷ []);
+      fanned_out = λ h. subst AreFannedOut (sym same) (front_fanned_out f.finishes.middle.net f.waits.place init f.finishes.next h);
     })
   where
     front : Cell

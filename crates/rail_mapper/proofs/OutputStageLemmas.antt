@@ -27,7 +27,7 @@ use Rattle.rail_mapper.specs.LatchStages.{FrontsAt, fronts_of}
 use Rattle.rail_mapper.specs.OutputStages.{PutsOutputs, CanPut, outputs_from, OutputsAt}
 use Rattle.rail_mapper.specs.Plans.{output_uses}
 use Rattle.rail_mapper.specs.Stages.{IsClosing, Outputs}
-use Rattle.rail_mapper.proofs.OutputSteps.{output_draft, output_wires, outputs_closing, closed_sound, closed_carries}
+use Rattle.rail_mapper.proofs.OutputSteps.{output_draft, output_wires, outputs_closing, closed_sound, IsClosed, all_closed, closed_carries}
 use Rattle.rail_mapper.proofs.StageSteps.{leaves_inside}
 
 -- what an output rail leaves
@@ -209,6 +209,9 @@ module _ (built : PlainBuilt) (ask : Ask) (draft : PlainDraft) (h : OutputsAt bu
   ends_sound ports ins twice = closed_sound built draft closed h.no_pending h.all_spread ins
       (λ rail m. rw ports (asked_within ask (length built.outputs) (rail_of rail)
       (subst (λ (l : List (ℕ × Sign)). IsIn (rail_of rail) l) h.rails (IsIn-map rail_of rail draft.net.output_rails m)))) twice
+
+  pub ends_closed : IsClosed built draft
+  ends_closed = all_closed built draft closed h.no_pending h.all_spread
 
   pub ends_carries : (machine : PlainMachine) → IsGraphOf machine built → NodesHaveTheirBits → (vectors run valuations : List (List Bool)) → IsNetRun draft.net vectors run
       → IsRun machine vectors valuations

@@ -18,7 +18,7 @@ use Rattle.cell_netlist.specs.NetRuns.{OutputsCarry}
 use Rattle.pulse_ids.proofs.CallerLemmasOnCounts.{occurrences-append}
 use Rattle.wire_ledgers.specs.Ledgers.{IsLedger}
 use Rattle.rail_mapper.specs.Drafts.{PlainDraft, readers_of, open_in, IsDraft}
-use Rattle.rail_mapper.specs.Labels.{literal_number, rails_in, IsRailOfOutput}
+use Rattle.rail_mapper.specs.Labels.{literal_number, rails_in, IsRailOfOutput, IsLabelled}
 use Rattle.cell_netlist.specs.declared.kinds.Ask.{Ask}
 use Rattle.rail_demand.specs.Demands.{PlainDemand}
 use Rattle.std.specs.List.{flat_map, range_with_len}
@@ -91,6 +91,12 @@ outputs_closing built port literal sign left before after h stands within out = 
     only label e rail (inl s) = subst (λ (r : Rail). IsRailOfOutput built label r) s (record { literal = literal; stands = stands; within = within; wire_is = e })
     only label e rail (inr m) = absurd m
 
+-- the netlist is labelled, and its ledger is closed
+pub record IsClosed (built : PlainBuilt) (draft : PlainDraft) : Type 0 where
+  pub label : ℕ → ℕ
+  pub labelled : IsLabelled built label draft.net
+  pub closed_ledger : IsLedger draft.net [] []
+
 -- With no read left and no pair pending the netlist is sound, and its output rails carry the machine's bits.
 module _ (built : PlainBuilt) (draft : PlainDraft) (h : IsClosing built [] draft) (none : draft.pending ≡ []) (all_rails : (rail : ℕ) → readers_of draft rail ≡ 0) where
   ledger : IsLedger draft.net [] []
@@ -107,6 +113,13 @@ module _ (built : PlainBuilt) (draft : PlainDraft) (h : IsClosing built [] draft
       → rail.port ≡ other.port → rail.sign ≡ other.sign → ⊥)
       → IsSound draft.net
   closed_sound = tracked_sound built (λ wire. slice_index_or h.labels wire 0) draft tracked ledger
+
+  pub all_closed : IsClosed built draft
+  all_closed = record {
+    label = λ wire. slice_index_or h.labels wire 0;
+    labelled = tracked_labelled built (λ wire. slice_index_or h.labels wire 0) draft tracked;
+    closed_ledger = ledger;
+  }
 
   pub closed_carries : (machine : PlainMachine) → IsGraphOf machine built → NodesHaveTheirBits → (vectors run valuations : List (List Bool)) → IsNetRun draft.net vectors run
       → IsRun machine vectors valuations

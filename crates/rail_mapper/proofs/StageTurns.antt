@@ -19,6 +19,7 @@ use Rattle.rail_mapper.specs.Lines.{AddsLines, KeepsCells}
 use Rattle.rail_mapper.specs.Makings.{InputsStand, CellsStand, LinesStand}
 use Rattle.rail_mapper.specs.OutputStages.{OutputsAt}
 use Rattle.rail_mapper.specs.Stages.{IsPlan, IsStage}
+use Rattle.rail_mapper.proofs.FanOutCells.{bare_fanned_out, kept_fanned_out}
 use Rattle.rail_mapper.proofs.LineSteps.{lines_same, lines_on, constant_lines}
 use Rattle.rail_mapper.proofs.MadeNets.{frame_kept}
 use Rattle.rail_mapper.proofs.NeededInputs.{inputs_are}
@@ -56,6 +57,7 @@ module _ (built : PlainBuilt) (demand : PlainDemand) (ask : Ask) (plan : IsPlan 
     no_outputs = all.ports.output_rails ∙ ap (λ (n : PlainNetlist). n.output_rails) h.frame;
     no_gates = all.gates_added ∙ ap (λ (n : PlainNetlist). flat_map gate_in n.cells ++ []) h.frame;
     roles = all.roles_added ∙ ap (λ (n : PlainNetlist). flat_map role_in n.cells ++ (constant_for demand ++ [])) h.frame ∙ append-nil (constant_for demand);
+    fanned_out = all.fanned_out (bare_fanned_out first.net (ap (λ (n : PlainNetlist). n.cells) h.frame));
   }
     where
       all : AddsLines [] (constant_for demand ++ []) first third
@@ -83,6 +85,7 @@ cells_stand built demand ask start backs gates fronts h back_stage back_lines ga
   roles = all.roles_added ∙ ap (λ (l : List Role). l ++ (replicate (length backs.pending) Back ++ replicate (length gates.pending) Front)) h.roles
       ∙ ap (λ (k : ℕ). constant_for demand ++ (replicate k Back ++ replicate (length gates.pending) Front)) pairs
       ∙ ap (λ (k : ℕ). constant_for demand ++ (replicate (pairs_for built demand) Back ++ replicate k Front)) (ap (λ (l : List (ℕ × ℕ)). length l) same ∙ pairs);
+  fanned_out = all.fanned_out h.fanned_out;
 }
   where
     pairs : length backs.pending ≡ pairs_for built demand
@@ -100,4 +103,5 @@ lines_stand built demand ask before after h outputs kept = record {
   frame = frame_kept built demand before after h.frame kept.ports;
   gates = ap (flat_map gate_in) kept.cells ∙ h.gates;
   roles = ap (flat_map role_in) kept.cells ∙ h.roles;
+  fanned_out = kept_fanned_out before.net after.net kept.cells kept.ports.input_rails h.fanned_out;
 }

@@ -13,6 +13,8 @@ use Rattle.rail_mapper.specs.Drafts.{PlainDraft, readers_of, HasRoom}
 use Rattle.rail_mapper.specs.InputStages.{InputsAt, AddsInput, TreesAt}
 use Rattle.rail_mapper.specs.Labels.{rail_number}
 use Rattle.rail_mapper.specs.Stages.{GrowsIf}
+use Rattle.rail_mapper.proofs.FanOuts.{IsBare}
+use Rattle.rail_mapper.proofs.InputFanOuts.{tree_bare}
 use Rattle.rail_mapper.proofs.InputStageLemmas.{input_one, tree_one, tree_root}
 
 -- a fact of a result from three
@@ -51,3 +53,9 @@ module _ (built : PlainBuilt) (demand : PlainDemand) (ask : Ask) (port : ℕ) (l
 
   pub second_root : (wire : ℕ) (draft : PlainDraft) → TreesAt built demand ask (2 * port + 1) wire draft → 1 ≤ readers_of draft (rail_number (1 + port) Neg) → wire < number_of_wires draft.net
   second_root wire draft h some = tree_root built demand ask (2 * port + 1) port wire Neg draft (omega arith) (omega (arith, low)) h some
+
+  pub first_tree_bare : (wire : ℕ) (draft : PlainDraft) → TreesAt built demand ask (2 * port) wire draft → 1 ≤ readers_of draft (rail_number (1 + port) Pos) → IsBare draft.net wire
+  first_tree_bare wire draft h some = tree_bare built demand ask (2 * port) port wire Pos draft (omega arith) (omega (arith, low)) h some
+
+  pub second_tree_bare : (wire : ℕ) (draft : PlainDraft) → TreesAt built demand ask (2 * port + 1) wire draft → 1 ≤ readers_of draft (rail_number (1 + port) Neg) → IsBare draft.net wire
+  second_tree_bare wire draft h some = tree_bare built demand ask (2 * port + 1) port wire Neg draft (omega arith) (omega (arith, low)) h some

@@ -76,8 +76,9 @@ pub data AddsConstant (before after : PlainDraft) : Type 0 where
   unread : readers_of before 0 ≡ 0 → readers_of before 1 ≡ 0 → after ≡ before → AddsConstant before after
   added : HasConstant before after → AddsConstant before after
 
--- the trees of the first rails of inputs stand; the wires of the others are in hand, from one on
+-- the trees of the first rails of inputs stand; the wires of the others are in hand, from one on, which are the last wires of input rails
 pub record TreesAt (built : PlainBuilt) (demand : PlainDemand) (ask : Ask) (count wire : ℕ) (draft : PlainDraft) : Type 0 where
   pub held : IsHeld built demand ask (2 + count) (held_from (uses built demand ask) wire (range_with_len (2 + count) (2 * built.graph.inputs - count))) draft
+  pub all_inputs : wire + length (held_from (uses built demand ask) wire (range_with_len (2 + count) (2 * built.graph.inputs - count))) ≡ length draft.net.input_rails
   pub no_pending : draft.pending ≡ []
   pub room : HasRoom (2 ^ 16) draft

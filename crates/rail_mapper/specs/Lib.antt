@@ -2,6 +2,7 @@
 pub mod Cells
 pub mod Counts
 pub mod Drafts
+pub mod FanOuts
 pub mod FrontStages
 pub mod InputStages
 pub mod Labels

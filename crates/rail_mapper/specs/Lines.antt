@@ -5,13 +5,16 @@ use Rattle.cell_netlist.specs.declared.kinds.Gate.{Gate}
 use Rattle.cell_netlist.specs.declared.kinds.Role.{Role}
 use Rattle.rail_mapper.specs.Cells.{gate_in, role_in}
 use Rattle.rail_mapper.specs.Drafts.{PlainDraft}
+use Rattle.rail_mapper.specs.FanOuts.{AreFannedOut}
 use Rattle.rail_mapper.specs.Ports.{KeepsInputs, KeepsPorts}
 
--- the ports, names and rails stay; these gates come behind the others, and DROCs of these roles behind the others
+-- the ports, names and rails stay; these gates come behind the others, and DROCs of these roles behind the others; and no wire comes to
+-- stand deeper below splitters than it may
 pub record AddsLines (gates : List Gate) (roles : List Role) (before after : PlainDraft) : Type 0 where
   pub ports : KeepsPorts before after
   pub gates_added : flat_map gate_in after.net.cells ≡ flat_map gate_in before.net.cells ++ gates
   pub roles_added : flat_map role_in after.net.cells ≡ flat_map role_in before.net.cells ++ roles
+  pub fanned_out : AreFannedOut before.net → AreFannedOut after.net
 
 -- all stays but for the output rails
 pub record KeepsCells (before after : PlainDraft) : Type 0 where

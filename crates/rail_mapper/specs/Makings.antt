@@ -7,6 +7,7 @@ use Rattle.graph_build.specs.Built.{PlainBuilt}
 use Rattle.rail_demand.specs.Demands.{PlainDemand}
 use Rattle.rail_mapper.specs.Cells.{gate_in, role_in, gates_for, constant_for, roles_for, inputs_for}
 use Rattle.rail_mapper.specs.Drafts.{PlainDraft}
+use Rattle.rail_mapper.specs.FanOuts.{AreFannedOut}
 use Rattle.rail_mapper.specs.LatchStages.{FrontsAt}
 use Rattle.rail_mapper.specs.OutputStages.{OutputsAt}
 use Rattle.rail_mapper.specs.Stages.{IsStage}
@@ -27,6 +28,7 @@ pub record InputsStand (built : PlainBuilt) (demand : PlainDemand) (ask : Ask) (
   pub no_outputs : draft.net.output_rails ≡ []
   pub no_gates : flat_map gate_in draft.net.cells ≡ []
   pub roles : flat_map role_in draft.net.cells ≡ constant_for demand
+  pub fanned_out : AreFannedOut draft.net
 
 -- all cells stand
 pub record CellsStand (built : PlainBuilt) (demand : PlainDemand) (ask : Ask) (draft : PlainDraft) : Type 0 where
@@ -36,6 +38,7 @@ pub record CellsStand (built : PlainBuilt) (demand : PlainDemand) (ask : Ask) (d
   pub no_outputs : draft.net.output_rails ≡ []
   pub gates : flat_map gate_in draft.net.cells ≡ gates_for built demand
   pub roles : flat_map role_in draft.net.cells ≡ roles_for built demand
+  pub fanned_out : AreFannedOut draft.net
 
 -- all lines stand
 pub record LinesStand (built : PlainBuilt) (demand : PlainDemand) (ask : Ask) (draft : PlainDraft) : Type 0 where
@@ -43,3 +46,4 @@ pub record LinesStand (built : PlainBuilt) (demand : PlainDemand) (ask : Ask) (d
   pub frame : HasFrame built demand draft
   pub gates : flat_map gate_in draft.net.cells ≡ gates_for built demand
   pub roles : flat_map role_in draft.net.cells ≡ roles_for built demand
+  pub fanned_out : AreFannedOut draft.net

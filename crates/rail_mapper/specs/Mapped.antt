@@ -7,6 +7,7 @@ use Rattle.cell_netlist.specs.declared.kinds.Gate.TheVariants.{La, Fa}
 use Rattle.cell_netlist.specs.declared.kinds.Role.{Role}
 use Rattle.cell_netlist.specs.declared.kinds.Role.TheVariants.{Front, Back, Const}
 use Rattle.cell_netlist.specs.Asked.{Asks, rail_of}
+use Rattle.cell_netlist.specs.Lean.{IsLean}
 use Rattle.cell_netlist.specs.Names.{name_at}
 use Rattle.cell_netlist.specs.NetRuns.{OutputsCarry}
 use Rattle.cell_netlist.specs.Netlists.{PlainNetlist}
@@ -44,8 +45,10 @@ pub record IsMapped (machine : PlainMachine) (built : PlainBuilt) (demand : Plai
   -- in every run on the machine's vectors the output rails carry the machine's outputs
   pub carries : (vectors valuations run : List (List Bool)) → AreVectors machine vectors → IsRun machine vectors valuations → IsNetRun net vectors run
       → OutputsCarry net vectors run (bit_of machine valuations)
-  -- and it has exactly the cells and input rails that the needed rails ask for
+  -- it has exactly the cells and input rails that the needed rails ask for
   pub cells : HasCells built demand net
+  -- and it is lean: nothing in it is useless or there twice, no gate folds, and fan-out is no deeper than it has to be
+  pub lean : IsLean net
 
 -- whether two gates are of a kind
 abbrev pub is_gate : Gate → Gate → Bool

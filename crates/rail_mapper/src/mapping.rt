@@ -94,7 +94,7 @@ fn name_ports(
 
 /// Makes the netlist of a machine from its graph, of which these rails are needed for the asked output rails.
 ///
-/// The netlist is sound. It has exactly the asked output rails, and the machine's ports and names; and whatever its
+/// The netlist is sound and lean. It has exactly the asked output rails, and the machine's ports and names; and whatever its
 /// inputs are, its output rails carry the bits of the machine's outputs, by its rail equations. Its lines are in one
 /// order: a constant, where it is needed, with its trees; the trees of the needed rails of inputs; the back of each
 /// latch of which a rail is needed, with its trees; for each conjunction its positive rail's LA and its negative rail's
@@ -115,6 +115,8 @@ pub fn map(
     ensures few { IfOk result (λ net. HasFewCells machine.now net) }
 {
     nodes_have_values(); // each node has the bit of what it stands for
+    nodes_have_places(); // each node's number tells what it is
+    demands_are_closed(); // each needed rail is of one of the nodes
     let raw = machine.raw();
     let circuit = Circuit { built, demand, ask };
     let draft = add_lines(alloc, raw.inputs.len() as u32, &circuit)?;

@@ -7,3 +7,4 @@ pub mod CutLemmas
 pub mod DigitLemmas
 pub mod PlainLemmas
 pub mod WordLemmas
+pub mod CallerLemmasLogical

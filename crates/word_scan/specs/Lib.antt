@@ -3,3 +3,4 @@ pub mod Lines
 pub mod Decimals
 pub mod Words
 pub mod Reading
+pub mod Logical

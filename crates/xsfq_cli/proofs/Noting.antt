@@ -1,5 +1,5 @@
 -- A note that was written, and the flush after it.
-use Rattle.std.proofs.Common.{◌≡◌, ◌<◌, ◌-◌, ◌^◌, ◌++◌, ◌∷◌, [], ℕ, Bool, IsTrue, IsOk, List, Option, Result, Ok, Err, codes, decimal, refl, subst, arith}
+use Rattle.std.proofs.Common.{◌≡◌, ◌<◌, ◌-◌, ◌^◌, ◌++◌, ◌∷◌, [], ℕ, Bool, IsTrue, IsOk, List, Option, Result, Ok, Err, codes, decimal, refl, ap, subst, append-nil, arith}
 use Rattle.std.specs.Io.KnownBytes.{Appends, Keeps}
 use Rattle.std.proofs.KnownBytes.{Appends-kept}
 use Rattle.byte_ports.specs.Causes.{Rose, HasCause}
@@ -19,6 +19,10 @@ same_text old new before now result text same e w = subst (λ (l : List ℕ). Wr
 pub limit_text : {number same : ℕ} {text equal : List ℕ} → number ≡ same → text ≡ equal
     → codes "limit: more than " ++ (decimal number ++ (codes " of " ++ (text ++ 10 ∷ []))) ≡ codes "limit: more than " ++ (decimal same ++ (codes " of " ++ (equal ++ 10 ∷ [])))
 limit_text {number} {same} {text} {equal} e d = rw (e, d) refl
+
+-- a text that ends with a number
+pub number_last : (before : List ℕ) (number : ℕ) → before ++ (decimal number ++ []) ≡ before ++ decimal number
+number_last before number = ap (λ l. before ++ l) (append-nil (decimal number))
 
 -- a count below its greatest value that stayed did not rise
 pub stayed : (before now : ℕ) → before < 2 ^ 64 - 1 → now ≡ before → Rose before now → ⊥

@@ -5,12 +5,13 @@ use Rattle.std.specs.Io.KnownBytes.{Consumes, IsAtEnd}
 use Rattle.std.proofs.KnownBytes.{Consumes-nil}
 use Rattle.byte_ports.specs.Causes.{Rose}
 use Rattle.xsfq_cli.specs.declared.orders.Order.{Order}
-use Rattle.xsfq_cli.specs.declared.orders.Order.TheVariants.{Compile}
+use Rattle.xsfq_cli.specs.declared.orders.Order.TheVariants.{Check, Compile}
 use Rattle.xsfq_cli.specs.declared.outcomes.Outcome.{Outcome}
 use Rattle.xsfq_cli.specs.declared.outcomes.Outcome.TheVariants as outcomes
-use Rattle.xsfq_cli.specs.Judgements.{reads, shown, Refuses, Writes}
+use Rattle.xsfq_cli.specs.Judgements.{most_bytes, reads, shown, Refuses, Writes}
 use Rattle.xsfq_cli.specs.Laws.{AcceptedLaw, BoundedLaw, IsCalm, OneRefusal, OnlyRefusedLaw, ReadFaultLaw, RefusalsAreOfBytes, RefusedHasNoText, RefusedLaw, UnwrittenLaw, UsageLaw, WriteFaultLaw}
-use Rattle.xsfq_cli.specs.Limited.{long_shown}
+use Rattle.xsfq_cli.specs.Limited as sources
+use Rattle.xsfq_cli.specs.NetTextLimit as net_texts
 use Rattle.xsfq_cli.specs.Outcomes.{IsRefusal}
 use Rattle.xsfq_cli.specs.Table.{AnswersOrder, Ends, Input, Leaves, Output, Performed, ReadsAll, ReadWhole, Refused, Took, Unwritten, WriteFailed, Wrote}
 use Rattle.xsfq_cli.proofs.Noting.{stayed}
@@ -18,6 +19,7 @@ use Rattle.xsfq_cli.proofs.Noting.{stayed}
 -- the ending of a text is `Done`
 ends_done : (order : Order) (bytes text : List ℕ) (ending : Outcome) → Writes order bytes text ending → ending ≡ outcomes.Done
 ends_done (Compile ask) bytes text ending (net, compiled, e, d) = d
+ends_done Check bytes text ending (net, checked, e, d) = d
 
 -- an outcome that is no refusal is not one
 not_refusal : (of : RefusalsAreOfBytes) (order : Order) (input : Input) (outcome other : Outcome) → (IsRefusal other → ⊥) → Refused (shown order) (Refuses order) input outcome
@@ -60,33 +62,34 @@ done_or_failed order input output outcome performed = go performed.ends
     go (inr failed) = inr failed
 
 -- what was taken is at most a read more than the greatest number of bytes
-order_limited : (order : Order) (text : List ℕ) → 2 ^ 26 < length text → shown order text ≡ None → ⊥
-order_limited (Compile ask) text long none = long_shown text long none
+order_limited : (order : Order) (text : List ℕ) → most_bytes order < length text → shown order text ≡ None → ⊥
+order_limited (Compile ask) text long none = sources.long_shown text long none
+order_limited Check text long none = net_texts.long_shown text long none
 
-few_taken : (order : Order) (input : Input) (bytes : List ℕ) → Took (shown order) input bytes → length bytes ≤ 2 ^ 26 + 4096
-few_taken order input bytes took = go (ltb (2 ^ 26) (length bytes)) refl
+few_taken : (order : Order) (input : Input) (bytes : List ℕ) → Took (shown order) input bytes → length bytes ≤ most_bytes order + 4096
+few_taken order input bytes took = go (ltb (most_bytes order) (length bytes)) refl
   where
     first : List ℕ
-    first = take (2 ^ 26 + 1) bytes
+    first = take (most_bytes order + 1) bytes
 
-    size : 2 ^ 26 < length bytes → length first ≡ 2 ^ 26 + 1
-    size long = omega (arith, length-take (2 ^ 26 + 1) bytes, long)
+    size : most_bytes order < length bytes → length first ≡ most_bytes order + 1
+    size long = omega (arith, length-take (most_bytes order + 1) bytes, long)
 
-    sums : length first + length (drop (2 ^ 26 + 1) bytes) ≡ length bytes
-    sums = sym (length-append first (drop (2 ^ 26 + 1) bytes)) ∙ ap length (take-append-drop (2 ^ 26 + 1) bytes)
+    sums : length first + length (drop (most_bytes order + 1) bytes) ≡ length bytes
+    sums = sym (length-append first (drop (most_bytes order + 1) bytes)) ∙ ap length (take-append-drop (most_bytes order + 1) bytes)
 
-    by_shown : (o : Option Outcome) → shown order first ≡ o → 2 ^ 26 < length bytes → length bytes ≤ 2 ^ 26 + 4096
+    by_shown : (o : Option Outcome) → shown order first ≡ o → most_bytes order < length bytes → length bytes ≤ most_bytes order + 4096
     by_shown None e long = absurd (order_limited order first (omega (arith, size long)) e)
     by_shown (Some refusal) e long =
-        let more = took.past first (drop (2 ^ 26 + 1) bytes) refusal (sym (take-append-drop (2 ^ 26 + 1) bytes)) e in
+        let more = took.past first (drop (most_bytes order + 1) bytes) refusal (sym (take-append-drop (most_bytes order + 1) bytes)) e in
         omega (arith, sums, size long, more)
 
-    go : (b : Bool) → ltb (2 ^ 26) (length bytes) ≡ b → length bytes ≤ 2 ^ 26 + 4096
+    go : (b : Bool) → ltb (most_bytes order) (length bytes) ≡ b → length bytes ≤ most_bytes order + 4096
     go true long = by_shown (shown order first) refl (ltb-true _ _ long)
     go false short = omega (arith, ltb-false _ _ short)
 
 read_few : (order : Order) (reading : Bool) (input : Input) (bytes : List ℕ) → ReadsAll reading (shown order) input bytes
-    → (taken : List ℕ) × Consumes input.before input.now taken × (length taken ≤ 2 ^ 26 + 4096)
+    → (taken : List ℕ) × Consumes input.before input.now taken × (length taken ≤ most_bytes order + 4096)
 read_few order true input bytes whole = (bytes, whole.took.consumed, few_taken order input bytes whole.took)
 read_few order false input bytes (unread, e) =
     ([], subst (λ (now : Option (List ℕ)). Consumes input.before now []) (sym unread.left) (Consumes-nil input.before), zero-le)
@@ -94,7 +97,7 @@ read_few order false input bytes (unread, e) =
 pub bounded_law : BoundedLaw
 bounded_law order input output outcome answers = go answers
   where
-    go : AnswersOrder order input output outcome → (taken : List ℕ) × Consumes input.before input.now taken × (length taken ≤ 2 ^ 26 + 4096)
+    go : AnswersOrder order input output outcome → (taken : List ℕ) × Consumes input.before input.now taken × (length taken ≤ most_bytes order + 4096)
     go (inl (inl refused, unwritten)) = (refused.taken, refused.took.consumed, few_taken order input refused.taken refused.took)
     go (inl (inr (inl (e, failed)), unwritten)) = (failed.taken, failed.took.consumed, few_taken order input failed.taken failed.took)
     go (inl (inr (inr (e, starved)), unwritten)) = (starved.taken, starved.took.consumed, few_taken order input starved.taken starved.took)

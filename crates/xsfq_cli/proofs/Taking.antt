@@ -125,3 +125,16 @@ finished shows judges input bytes (Err outcome) whole (inr judged) = inl (record
   leaves = leaves_none input.now whole.ended;
   refuses_all = subst (λ (l : List ℕ). judges l (Err outcome)) (sym (append-nil bytes)) judged;
 })
+
+-- a refusal in other words
+pub stops_as : (shows : List ℕ → Option Outcome) (one other : List ℕ → Outcome → Type 0) (input : Input) (outcome : Outcome)
+    → ((bytes : List ℕ) → one bytes outcome → other bytes outcome) → Stops shows one input outcome → Stops shows other input outcome
+stops_as shows one other input outcome f (inl refused) = inl (record {
+  calm = refused.calm;
+  taken = refused.taken;
+  took = refused.took;
+  rest = refused.rest;
+  leaves = refused.leaves;
+  refuses_all = f (refused.taken ++ refused.rest) refused.refuses_all;
+})
+stops_as shows one other input outcome f (inr unread) = inr unread

@@ -1,5 +1,5 @@
 -- The headline: what it means that a source was compiled to a netlist.
-use Rattle.std.specs.Prelude.{◌≡◌, ℕ, Bool, List, Ok, length}
+use Rattle.std.specs.Prelude.{◌≡◌, ℕ, Bool, List, [], Ok, length}
 use Rattle.source_machine.specs.Machines.{PlainMachine}
 use Rattle.source_machine.specs.Fitting.{Fits}
 use Rattle.source_machine.specs.Grounding.{IsWellFounded}
@@ -8,10 +8,13 @@ use Rattle.source_machine.specs.Laws.{AreVectors}
 use Rattle.cell_netlist.specs.declared.kinds.Ask.{Ask}
 use Rattle.cell_netlist.specs.Asked.{Asks}
 use Rattle.cell_netlist.specs.Delivery.{Delivers}
+use Rattle.cell_netlist.specs.Lean.{IsLean}
 use Rattle.cell_netlist.specs.NetRuns.{OutputsCarry}
 use Rattle.cell_netlist.specs.RailEquations.{IsNetRun}
 use Rattle.cell_netlist.specs.Netlists.{PlainNetlist, IsNetlist}
 use Rattle.cell_netlist.specs.Sound.{IsSound}
+use Rattle.cell_netlist.specs.Text.{text_of}
+use Rattle.netlist_reader.specs.Verdicts.{net_verdict}
 use Rattle.rail_mapper.specs.Mapped.{HasFewCells, Named}
 use Rattle.xsfq_cli.specs.Sources.{HasVerdict}
 
@@ -25,6 +28,8 @@ pub record ComputesOnce (machine : PlainMachine) : Type 0 where
 
 -- A netlist is one of a machine with the asked rails:
 pub record IsNetOf (machine : PlainMachine) (ask : Ask) (net : PlainNetlist) : Type 0 where
+  -- its text reads back as it, with nothing after it
+  pub read_back : net_verdict (text_of net) ≡ Ok (net, [])
   -- it has a text, is sound, and has exactly the asked output rails and the machine's ports and names
   pub netlist : IsNetlist net
   pub sound : IsSound net
@@ -37,6 +42,8 @@ pub record IsNetOf (machine : PlainMachine) (ask : Ask) (net : PlainNetlist) : T
   -- and under every order of deliveries it delivers them
   pub delivers : (vectors valuations : List (List Bool)) → AreVectors machine vectors → IsRun machine vectors valuations
       → Delivers net vectors (bit_of machine valuations)
+  -- it is lean: nothing in it is useless or there twice, no gate folds, and fan-out is no deeper than it has to be
+  pub lean : IsLean net
   -- it has at most as many LA and as many FA cells as the machine's size, one constant, and as many backs as the
   -- machine has latches
   pub cells : HasFewCells machine net

@@ -4,14 +4,19 @@ use Rattle.std.specs.Io.KnownBytes.{Consumes}
 use Rattle.byte_ports.specs.Causes.{Rose}
 use Rattle.source_machine.specs.Machines.{PlainMachine}
 use Rattle.cell_netlist.specs.declared.kinds.Ask.{Ask}
-use Rattle.cell_netlist.specs.Netlists.{PlainNetlist}
+use Rattle.cell_netlist.specs.declared.unsound.Unsound.{Unsound}
+use Rattle.cell_netlist.specs.Netlists.{PlainNetlist, IsNetlist}
+use Rattle.cell_netlist.specs.Sound.{IsFirstUnsound, IsSound}
 use Rattle.cell_netlist.specs.Text.{text_of}
+use Rattle.netlist_reader.specs.Laws.{IsWithinLimits}
 use Rattle.xsfq_cli.specs.declared.orders.Order.{Order}
-use Rattle.xsfq_cli.specs.declared.orders.Order.TheVariants.{Compile}
+use Rattle.xsfq_cli.specs.declared.orders.Order.TheVariants.{Check, Compile}
 use Rattle.xsfq_cli.specs.declared.outcomes.Outcome.{Outcome}
 use Rattle.xsfq_cli.specs.declared.outcomes.Outcome.TheVariants as outcomes
+use Rattle.xsfq_cli.specs.Checked.{IsChecked, sound_line}
 use Rattle.xsfq_cli.specs.Headline.{IsCompiled}
-use Rattle.xsfq_cli.specs.Judgements.{reads, shown, Refuses, Writes}
+use Rattle.xsfq_cli.specs.Judgements.{most_bytes, reads, shown, Refuses, Writes}
+use Rattle.xsfq_cli.specs.NetTexts.{net_shown}
 use Rattle.xsfq_cli.specs.Outcomes.{IsRefusal}
 use Rattle.xsfq_cli.specs.Sources.{HasVerdict, source_shown}
 use Rattle.xsfq_cli.specs.Table.{Input, Output, Answers, ReadWhole, Unread, Unwritten, Wrote}
@@ -28,7 +33,7 @@ OneRefusal = (order : Order) (bytes : List ℕ) (one other : Outcome) → Refuse
 abbrev pub RefusedHasNoText : Type 0
 RefusedHasNoText = (order : Order) (bytes text : List ℕ) (refusal ending : Outcome) → Refuses order bytes refusal → Writes order bytes text ending → ⊥
 
--- what refuses an input is a fault or limit of its bytes, or that they are not built yet
+-- what refuses an input is a fault or limit of its bytes, that its netlist is unsound, or that it is not built yet
 abbrev pub RefusalsAreOfBytes : Type 0
 RefusalsAreOfBytes = (order : Order) (bytes : List ℕ) (refusal : Outcome) → Refuses order bytes refusal → IsRefusal refusal
 
@@ -83,7 +88,7 @@ OnlyRefusedLaw = (order : Order) (input : Input) (output : Output) (outcome : Ou
 -- at most 4,096 bytes are taken past the greatest number
 abbrev pub BoundedLaw : Type 0
 BoundedLaw = (order : Order) (input : Input) (output : Output) (outcome : Outcome) → Answers (Some order) input output outcome
-    → (taken : List ℕ) × Consumes input.before input.now taken × (length taken ≤ 2 ^ 26 + 4096)
+    → (taken : List ℕ) × Consumes input.before input.now taken × (length taken ≤ most_bytes order + 4096)
 
 -- The headline: after `Done` all of a source was read, and the output took exactly the text of one netlist, to which it
 -- was compiled, and was flushed.
@@ -98,3 +103,28 @@ MachineLaw = (ask : Ask) (input : Input) (output : Output) (outcome : Outcome) (
     → IsCalm input.faults input.faults_now → IsCalm output.faults output.faults_now → Answers (Some (Compile ask)) input output outcome
     → HasVerdict bytes (Ok machine)
     → (outcome ≡ outcomes.NoMemory) ⊎ ((outcome ≡ outcomes.Done) × (net : PlainNetlist) × IsCompiled ask bytes net × Wrote output (text_of net))
+
+-- After `Done` of `check` the whole input was one netlist's text, the netlist is sound, so that the law of every order
+-- holds of it, and the output took exactly its line and was flushed.
+abbrev pub CheckedLaw : Type 0
+CheckedLaw = (input : Input) (output : Output) → Answers (Some Check) input output outcomes.Done
+    → (bytes : List ℕ) × ReadWhole net_shown input bytes × (net : PlainNetlist) × IsChecked bytes net × Wrote output (sound_line net)
+
+-- the input tells its bytes, which are the text of a netlist within the limits, and it did not fail
+pub record HoldsNet (input : Input) (net : PlainNetlist) : Type 0 where
+  pub netlist : IsNetlist net
+  pub limits : IsWithinLimits net
+  pub text : input.before ≡ Some (text_of net)
+  pub calm : IsCalm input.faults input.faults_now
+
+-- where the output did not fail, a sound netlist is told so, or memory was refused
+abbrev pub SoundLaw : Type 0
+SoundLaw = (input : Input) (output : Output) (outcome : Outcome) (net : PlainNetlist) → HoldsNet input net → IsCalm output.faults output.faults_now
+    → Answers (Some Check) input output outcome → IsSound net
+    → (outcome ≡ outcomes.NoMemory) ⊎ ((outcome ≡ outcomes.Done) × Wrote output (sound_line net))
+
+-- and every other one is refused by the first rule that it breaks
+abbrev pub UnsoundLaw : Type 0
+UnsoundLaw = (input : Input) (output : Output) (outcome : Outcome) (net : PlainNetlist) (unsound : Unsound) → HoldsNet input net
+    → Answers (Some Check) input output outcome → IsFirstUnsound net unsound
+    → (outcome ≡ outcomes.Unsound unsound) ⊎ (outcome ≡ outcomes.NoMemory)

@@ -1,9 +1,10 @@
 -- A source beyond the limit shows a refusal, and no bytes show none.
-use Rattle.std.proofs.Common.{◌≡◌, ℕ, ◌<◌, ◌^◌, true, false, ltb, List, [], length, take, Option, Some, None, refl, arith}
+use Rattle.std.proofs.Common.{◌≡◌, ℕ, ◌<◌, ◌≤◌, ◌^◌, true, false, ltb, List, [], length, take, Option, Some, None, refl, arith}
 use Rattle.std.specs.Prelude.{option_map}
 use Rattle.std.specs.Option.{option_or}
 use Rattle.std.proofs.lemmas.Bool.{lt-ltb, le-ltb}
 use Rattle.pulse_ids.specs.declared.quantities.Quantity.TheVariants as quantities
+use Rattle.pulse_ids.specs.Quantities.{greatest_of}
 use Rattle.source_machine.specs.declared.unset.Unset.TheVariants.{Refuse}
 use Rattle.aiger_reader.specs.declared.refusals.AigerRefusal.{AigerRefusal}
 use Rattle.aiger_reader.specs.declared.refusals.AigerRefusal.TheVariants as refusals
@@ -27,3 +28,6 @@ long_shown text long h =
 
 pub none_quiet : source_shown [] ≡ None
 none_quiet = refl
+
+pub source_bytes_counted : greatest_of quantities.SourceBytes ≤ 2 ^ 32
+source_bytes_counted = omega arith

@@ -3,6 +3,11 @@ use Rattle.std.specs.Prelude.{ℕ, List, [], ◌∷◌, ◌++◌, codes, decimal
 use Rattle.pulse_ids.specs.declared.quantities.Quantity.{Quantity}
 use Rattle.pulse_ids.specs.declared.quantities.Quantity.TheVariants as quantities
 use Rattle.pulse_ids.specs.Quantities.{greatest_of}
+use Rattle.cell_netlist.specs.declared.unsound.RailLine.TheVariants.{Input, Output}
+use Rattle.cell_netlist.specs.declared.unsound.Unsound.{Unsound}
+use Rattle.cell_netlist.specs.declared.unsound.Unsound.TheVariants as rules
+use Rattle.netlist_reader.specs.declared.refusals.NetRefusal.{NetRefusal}
+use Rattle.netlist_reader.specs.declared.refusals.NetRefusal.TheVariants as net_refusals
 use Rattle.source_machine.specs.declared.places.Place.{Place}
 use Rattle.source_machine.specs.declared.places.Place.TheVariants as places
 use Rattle.aiger_reader.specs.declared.refusals.AigerFault.{AigerFault}
@@ -52,12 +57,37 @@ fault_line fault = codes "source: " ++ (place_text fault.place ++ (aiger_text fa
 abbrev pub limit_line : Quantity → List ℕ
 limit_line quantity = codes "limit: more than " ++ (decimal (greatest_of quantity) ++ (codes " of " ++ (quantity_text quantity ++ 10 ∷ [])))
 
+-- the line of a refused netlist text, and that of an unsound netlist
+abbrev pub net_line : NetRefusal → List ℕ
+net_line (net_refusals.BadLine line) = codes "netlist: line " ++ (decimal line ++ codes ": bad line\n")
+net_line net_refusals.Truncated = codes "netlist: truncated\n"
+net_line (net_refusals.Limit quantity) = limit_line quantity
+net_line net_refusals.NoMemory = codes "no memory\n"
+
+-- the rule that is broken, and where
+abbrev pub rule_text : Unsound → List ℕ
+rule_text (rules.WireUndriven wire) = codes "wire " ++ (decimal wire.number ++ codes " undriven")
+rule_text (rules.WireTwiceDriven wire) = codes "wire " ++ (decimal wire.number ++ codes " driven twice")
+rule_text (rules.WireUnread wire) = codes "wire " ++ (decimal wire.number ++ codes " unread")
+rule_text (rules.WireTwiceRead wire) = codes "wire " ++ (decimal wire.number ++ codes " read twice")
+rule_text (rules.PortRange (Input rail)) = codes "port out of range at input " ++ decimal rail.number
+rule_text (rules.PortRange (Output rail)) = codes "port out of range at output " ++ decimal rail.number
+rule_text (rules.RailTwice rail) = codes "rail twice at input " ++ decimal rail.number
+rule_text (rules.Loop cell) = codes "loop at cell " ++ decimal cell.number
+rule_text (rules.LooseDroc cell) = codes "loose droc at cell " ++ decimal cell.number
+rule_text (rules.WrongPreload cell) = codes "wrong preload at cell " ++ decimal cell.number
+
+abbrev pub unsound_line : Unsound → List ℕ
+unsound_line unsound = codes "unsound: " ++ (rule_text unsound ++ 10 ∷ [])
+
 -- the line of an outcome with its line feed, and nothing after `Done`
 abbrev pub note_of : Outcome → List ℕ
 note_of outcomes.Done = []
 note_of outcomes.Usage = codes "usage: compile, check, simulate, report or workload\n"
 note_of (outcomes.Aiger fault) = fault_line fault
+note_of (outcomes.NetText refusal) = net_line refusal
 note_of (outcomes.Limit quantity) = limit_line quantity
+note_of (outcomes.Unsound unsound) = unsound_line unsound
 note_of outcomes.ReadFault = codes "read failed\n"
 note_of outcomes.WriteFault = codes "write failed\n"
 note_of outcomes.NoMemory = codes "no memory\n"

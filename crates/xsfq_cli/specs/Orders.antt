@@ -5,7 +5,7 @@ use Rattle.cell_netlist.specs.declared.kinds.Ask.{Ask}
 use Rattle.cell_netlist.specs.declared.kinds.Ask.TheVariants.{Pos, Neg, Both}
 use Rattle.xsfq_cli.specs.declared.orders.Options.{Options}
 use Rattle.xsfq_cli.specs.declared.orders.Order.{Order}
-use Rattle.xsfq_cli.specs.declared.orders.Order.TheVariants.{Compile}
+use Rattle.xsfq_cli.specs.declared.orders.Order.TheVariants.{Check, Compile}
 
 -- no option was given
 abbrev pub no_options : Options
@@ -37,10 +37,17 @@ options_with (Some options) [] = Some options
 options_with (Some options) (name ∷ []) = None
 options_with (Some options) (name ∷ value ∷ words) = options_with (with_option options name value) words
 
+-- an order that has no such option
+abbrev pub unless_given : {A : Type 0} → Option A → Order → Option Order
+unless_given None order = Some order
+unless_given (Some value) order = None
+
 -- the order of a command with options
 abbrev pub order_with : List ℕ → Options → Option Order
 order_with command options =
-    if bytes_eq command (codes "compile") then Some (Compile (unwrap_or options.rails Pos)) else None
+    if bytes_eq command (codes "compile") then Some (Compile (unwrap_or options.rails Pos))
+    else if bytes_eq command (codes "check") then unless_given options.rails Check
+    else None
 
 abbrev pub order_if : List ℕ → Option Options → Option Order
 order_if command None = None

@@ -13,6 +13,7 @@ use aiger_reader::early_refusals_stand;
 use byte_ports::{Failed, Sink, Source};
 use cell_netlist::{Ask, Netlist, SoundNet, equation_runs};
 use graph_build::build;
+use netlist_reader::texts_are_read;
 use netlist_writer::write_netlist;
 use pulse_ids::NoMemory;
 use pulse_world::every_order;
@@ -36,6 +37,7 @@ fn netlist_of(alloc: Global, machine: &Machine, ask: Ask) -> Result<SoundNet, No
     one_run();
     equation_runs();
     every_order();
+    texts_are_read();
     let _ = machine.raw();
     let built = build(alloc, machine)?;
     let needed = demand(alloc, &built, ask)?;

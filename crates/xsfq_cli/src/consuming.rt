@@ -1,6 +1,6 @@
 //! Inputs that are read whole by readers that take pieces.
 
-ghost use Rattle.std.specs.Prelude.{◌≡◌, ◌<◌, ◌^◌, ◌++◌, [], ℕ, List, Option, Result, None, length};
+ghost use Rattle.std.specs.Prelude.{◌≡◌, ◌<◌, ◌≤◌, ◌^◌, ◌++◌, [], ℕ, List, Option, Result, None, OnOk, length};
 ghost use Rattle.xsfq_cli.specs.declared.outcomes.Outcome.{Outcome};
 ghost use Rattle.xsfq_cli.specs.Answering.{IsEarly, IsOrNoMemory, Tells};
 ghost use Rattle.xsfq_cli.specs.Halves.{Reads, TakesWhole};
@@ -23,9 +23,12 @@ pub(crate) trait Consumer {
     /// What all the bytes are judged to be.
     ghost judges: { List ℕ → Result Self.Whole Outcome → Type 0 };
 
+    /// The greatest number of bytes that may show none.
+    ghost most: { ℕ };
+
     /// Takes the next piece, and answers the refusal that the bytes so far show.
     fn feed(&mut self, piece: &[u8]) -> Result<(), Outcome>
-        ensures read { (text : List ℕ) → reads text self.old → reads (text ++ piece.now) self.new }
+        ensures read { OnOk result ((text : List ℕ) → reads text self.old → reads (text ++ piece.now) self.new) }
         ensures early { (text : List ℕ) → reads text self.old → Tells (shows (text ++ piece.now)) result };
 
     /// What the bytes are, where the input ends.
@@ -35,8 +38,10 @@ pub(crate) trait Consumer {
     /// No bytes show no refusal.
     ghost quiet: { shows [] ≡ None };
 
-    /// More than 2^26 bytes show one.
-    ghost limited: { (text : List ℕ) → 2 ^ 26 < length text → shows text ≡ None → ⊥ };
+    /// More than the greatest number show one, which is not beyond counting.
+    ghost counted: { most ≤ 2 ^ 32 };
+
+    ghost limited: { (text : List ℕ) → most < length text → shows text ≡ None → ⊥ };
 }
 
 /// Feeds a reader until the input ends, fails or is refused. It alone reads: at most 4,096 bytes a call, and never

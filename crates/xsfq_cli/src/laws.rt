@@ -1,10 +1,20 @@
 //! What the table of answers gives. These functions do nothing: their clauses are the laws.
 
-ghost use Rattle.xsfq_cli.specs.Laws.{AcceptedLaw, BoundedLaw, DoneLaw, MachineLaw, OneRefusal, OneVerdict, OnlyRefusedLaw, ReadFaultLaw, RefusalsAreOfBytes, RefusedHasNoText, RefusedLaw, ShownIsRefused, UnwrittenLaw, UsageLaw, WriteFaultLaw};
+ghost use Rattle.netlist_reader.specs.Laws.{EarlyStands};
+ghost use Rattle.xsfq_cli.specs.Laws.{AcceptedLaw, BoundedLaw, CheckedLaw, DoneLaw, MachineLaw, OneRefusal, OneVerdict, OnlyRefusedLaw, ReadFaultLaw, RefusalsAreOfBytes, RefusedHasNoText, RefusedLaw, ShownIsRefused, SoundLaw, UnsoundLaw, UnwrittenLaw, UsageLaw, WriteFaultLaw};
 ghost use Rattle.xsfq_cli.specs.Examples.{WordsAreOrders};
 
 use aiger_reader::early_refusals_stand;
+use cell_netlist::one_refusal;
+use netlist_reader::texts_are_read;
 use source_machine::one_verdict;
+
+/// What the first bytes of a netlist's text show stands.
+fn net_refusals_stand()
+    ensures { EarlyStands }
+{
+    netlist_reader::early_refusals_stand();
+}
 
 /// What a command makes of an input is one thing: one verdict of a source, one refusal of an input, and none where
 /// there is a text for it. A refusal is one of the bytes. What the first bytes show is the refusal of the whole.
@@ -17,6 +27,8 @@ pub fn one_judgement()
 {
     one_verdict();
     early_refusals_stand();
+    one_refusal();
+    net_refusals_stand();
 }
 
 /// Each outcome comes exactly where the table says. Words that order nothing are `Usage`; a fault of a port is
@@ -43,6 +55,19 @@ pub fn machines_are_compiled()
 {
     one_judgement();
     each_outcome_has_its_cause();
+}
+
+/// What stands after `Done` of `check`, and that each netlist's text comes there exactly where the netlist is sound, and
+/// else to the first rule that it breaks, unless a port failed or memory was refused.
+pub fn netlists_are_checked()
+    ensures done { CheckedLaw }
+    ensures sound { SoundLaw }
+    ensures unsound { UnsoundLaw }
+{
+    one_judgement();
+    each_outcome_has_its_cause();
+    texts_are_read();
+    one_refusal();
 }
 
 /// What some words order.

@@ -4,10 +4,13 @@
 //! `laws`. A command is a module in two halves, and a line in each definition of `specs/Judgements.antt`.
 #![tactic(auto)]
 
+mod checking;
 mod commands;
 mod compiling;
 mod consuming;
 mod laws;
+mod net_notes;
+mod netlists;
 mod notes;
 mod orders;
 mod outcomes;
@@ -15,7 +18,8 @@ mod running;
 mod sources;
 
 pub use laws::{
-    each_outcome_has_its_cause, machines_are_compiled, one_judgement, words_are_orders,
+    each_outcome_has_its_cause, machines_are_compiled, netlists_are_checked, one_judgement,
+    words_are_orders,
 };
 pub use orders::Order;
 pub use outcomes::Outcome;

@@ -7,6 +7,7 @@ ghost use Rattle.xsfq_cli.specs.Notes.{aiger_text, fault_line, limit_line, note_
 ghost use Rattle.xsfq_cli.specs.Pieces.{piece_text};
 ghost use Rattle.xsfq_cli.specs.Table.{Noted, output_of};
 
+use crate::net_notes::{write_net_refusal, write_unsound};
 use crate::outcomes::Outcome;
 use aiger_reader::{AigerCause, AigerFault};
 use byte_ports::{Failed, Sink, write_all};
@@ -47,7 +48,9 @@ fn write_line<E: Sink>(outcome: &Outcome, notes: &mut E) -> Result<(), Failed>
             b"usage: compile, check, simulate, report or workload\n",
         ),
         Outcome::Aiger(fault) => write_fault(fault, notes),
+        Outcome::NetText(refusal) => write_net_refusal(*refusal, notes),
         Outcome::Limit(quantity) => write_limit(*quantity, notes),
+        Outcome::Unsound(unsound) => write_unsound(*unsound, notes),
         Outcome::ReadFault => write_all(notes, b"read failed\n"),
         Outcome::WriteFault => write_all(notes, b"write failed\n"),
         Outcome::NoMemory => write_all(notes, b"no memory\n"),
@@ -56,7 +59,7 @@ fn write_line<E: Sink>(outcome: &Outcome, notes: &mut E) -> Result<(), Failed>
 }
 
 /// Writes the line of a limit.
-fn write_limit<E: Sink>(quantity: Quantity, notes: &mut E) -> Result<(), Failed>
+pub(crate) fn write_limit<E: Sink>(quantity: Quantity, notes: &mut E) -> Result<(), Failed>
     ensures { WritesText (E.taken notes.old) (E.taken notes.new) (E.faults notes.old) (E.faults notes.new) result (limit_line quantity) }
 {
     let pieces = [
@@ -159,7 +162,7 @@ fn cause_pieces(cause: &AigerCause) -> (Piece<'_>, Piece<'_>)
 }
 
 /// Writes pieces one after the other.
-fn write_pieces<E: Sink>(pieces: &[Piece<'_>], notes: &mut E) -> Result<(), Failed>
+pub(crate) fn write_pieces<E: Sink>(pieces: &[Piece<'_>], notes: &mut E) -> Result<(), Failed>
     ensures { WritesText (E.taken notes.old) (E.taken notes.new) (E.faults notes.old) (E.faults notes.new) result (flat_map piece_text pieces.entry.now) }
 {
     for piece in pieces {

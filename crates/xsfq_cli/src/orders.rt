@@ -2,8 +2,7 @@
 
 ghost use Rattle.std.specs.Prelude.{◌≡◌, Some, map};
 ghost use Rattle.std.specs.String.{string_bytes};
-ghost use Rattle.xsfq_cli.specs.declared.orders.Order.TheVariants.{Compile};
-ghost use Rattle.xsfq_cli.specs.Orders.{ask_of, no_options, options_with, order_of, order_with, with_option};
+ghost use Rattle.xsfq_cli.specs.Orders.{ask_of, no_options, options_with, order_of, order_with, unless_given, with_option};
 
 use cell_netlist::Ask;
 
@@ -12,6 +11,8 @@ use cell_netlist::Ask;
 pub enum Order {
     /// Compile a source to a netlist with these rails of each output port.
     Compile(Ask),
+    /// Check whether a netlist is sound.
+    Check,
 }
 
 /// The values of the options of all commands, where they are given.
@@ -25,7 +26,7 @@ const NO_OPTIONS: Options = Options { rails: None };
 impl Order {
     /// The order of the words after the program's name, or None where they order nothing. The first word is the
     /// command. Pairs of an option and its value follow in any order, each option at most once: for `compile`
-    /// the option `--rails` with `p`, `n` or `both`, which is `p` where it isn't given.
+    /// the option `--rails` with `p`, `n` or `both`, which is `p` where it isn't given. `check` has no options.
     pub fn from_words(words: &[String]) -> Option<Order>
         ensures { result ≡ order_of (map string_bytes words.now) }
     {
@@ -38,21 +39,13 @@ impl Order {
         }
     }
 
-    /// The rails that `compile` is asked for, which is the one command.
-    pub(crate) fn rails(self) -> Ask
-        ensures { Compile result ≡ self }
-    {
-        match self {
-            Order::Compile(ask) => ask,
-        }
-    }
-
     /// The order of a command with options.
     fn with_options(command: &str, options: Options) -> Option<Order>
         ensures { result ≡ order_with command.now options }
     {
         match command {
             "compile" => Some(Order::Compile(options.rails.unwrap_or(Ask::Pos))),
+            "check" => unless_given(options.rails, Order::Check),
             _ => None,
         }
     }
@@ -90,6 +83,16 @@ impl Options {
             },
             _ => None,
         }
+    }
+}
+
+/// An order that has no such option.
+fn unless_given(rails: Option<Ask>, order: Order) -> Option<Order>
+    ensures { result ≡ unless_given rails order }
+{
+    match rails {
+        None => Some(order),
+        Some(_) => None,
     }
 }
 

@@ -1,10 +1,12 @@
 //! How a call of the compiler ended, and its exit code.
 
 ghost use Rattle.std.specs.Prelude.{◌≡◌};
-ghost use Rattle.xsfq_cli.specs.Outcomes.{aiger_outcome, code_of};
+ghost use Rattle.xsfq_cli.specs.Outcomes.{aiger_outcome, code_of, net_outcome};
 ghost use Rattle.xsfq_cli.specs.declared.outcomes.Outcome.TheVariants as outcomes;
 
 use aiger_reader::{AigerFault, AigerRefusal};
+use cell_netlist::Unsound;
+use netlist_reader::NetRefusal;
 use pulse_ids::{NoMemory, Quantity};
 
 /// How a call of the compiler ended.
@@ -16,8 +18,12 @@ pub enum Outcome {
     Usage,
     /// The source is AIGER, and something is wrong with it.
     Aiger(AigerFault),
+    /// The text is no netlist's, or something stands after it.
+    NetText(NetRefusal),
     /// The input has too much of something.
     Limit(Quantity),
+    /// The netlist is unsound.
+    Unsound(Unsound),
     /// A read of the input failed.
     ReadFault,
     /// A write or the flush of the output failed.
@@ -37,7 +43,9 @@ impl Outcome {
             Outcome::Done => 0,
             Outcome::Usage => 2,
             Outcome::Aiger(_) => 3,
+            Outcome::NetText(_) => 3,
             Outcome::Limit(_) => 4,
+            Outcome::Unsound(_) => 5,
             Outcome::ReadFault => 7,
             Outcome::WriteFault => 8,
             Outcome::NoMemory => 9,
@@ -62,6 +70,18 @@ impl From<AigerRefusal> for Outcome {
             AigerRefusal::Fault(fault) => Outcome::Aiger(fault),
             AigerRefusal::Limit(quantity) => Outcome::Limit(quantity),
             AigerRefusal::NoMemory => Outcome::NoMemory,
+        }
+    }
+}
+
+impl From<NetRefusal> for Outcome {
+    ghost from_gives = { λ refusal outcome. outcome ≡ net_outcome refusal };
+
+    fn from(refusal: NetRefusal) -> Self {
+        match refusal {
+            NetRefusal::BadLine(_) | NetRefusal::Truncated => Outcome::NetText(refusal),
+            NetRefusal::Limit(quantity) => Outcome::Limit(quantity),
+            NetRefusal::NoMemory => Outcome::NoMemory,
         }
     }
 }

@@ -3,8 +3,9 @@
 ghost use Rattle.std.specs.Prelude.{◌<◌, ◌-◌, ◌^◌, map};
 ghost use Rattle.std.specs.String.{string_bytes};
 ghost use Rattle.xsfq_cli.specs.Orders.{order_of};
-ghost use Rattle.xsfq_cli.specs.Table.{Answers, IsAnswered, input_of, output_of};
+ghost use Rattle.xsfq_cli.specs.Table.{Answers, AnswersOrder, IsAnswered, input_of, output_of};
 
+use crate::checking::Check;
 use crate::commands::perform;
 use crate::compiling::Compile;
 use crate::notes::write_note;
@@ -23,14 +24,30 @@ fn carry_out<S: Source, K: Sink>(
     ensures { Answers order (input_of S.left S.faults input.old input.new) (output_of K.taken K.faults K.flushed output.old output.new) result }
 {
     match order {
-        Some(order) => perform(Compile { ask: order.rails() }, alloc, input, output),
+        Some(order) => order_carried_out(alloc, order, input, output),
         None => Outcome::Usage,
+    }
+}
+
+/// Carries out an order by its command.
+fn order_carried_out<S: Source, K: Sink>(
+    alloc: Global,
+    order: Order,
+    input: &mut S,
+    output: &mut K,
+) -> Outcome
+    ensures { AnswersOrder order (input_of S.left S.faults input.old input.new) (output_of K.taken K.faults K.flushed output.old output.new) result }
+{
+    match order {
+        Order::Compile(ask) => perform(Compile { ask }, alloc, input, output),
+        Order::Check => perform(Check, alloc, input, output),
     }
 }
 
 /// Does what the words order, and answers how it ended.
 ///
-/// `compile` reads a source from `input` and writes its netlist to `output`. All memory is taken before the first
+/// `compile` reads a source from `input` and writes its netlist to `output`; `check` reads a netlist's text and writes
+/// `sound` and the number of its wires. All memory is taken before the first
 /// write, and the output is flushed before `Done`. For every outcome but `Done`, one line goes to `notes`, and
 /// nothing that happens there changes the outcome. Bytes are read at most 4,096 a call; a port that failed is not
 /// called again.

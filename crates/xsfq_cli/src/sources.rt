@@ -112,8 +112,10 @@ fn feed_both(aiger: &mut AigerReader, first: &[u8], second: &[u8]) -> Result<(),
 }
 
 impl Consumer for SourceReader {
+    ghost use Rattle.pulse_ids.specs.Quantities.{greatest_of};
+    ghost use Rattle.pulse_ids.specs.declared.quantities.Quantity.TheVariants.{SourceBytes};
     ghost use Rattle.source_machine.specs.Machines.{PlainMachine};
-    ghost use Rattle.xsfq_cli.specs.Limited.{long_shown, none_quiet};
+    ghost use Rattle.xsfq_cli.specs.Limited.{long_shown, none_quiet, source_bytes_counted};
     ghost use Rattle.xsfq_cli.specs.Reading.{HasRead};
     ghost use Rattle.xsfq_cli.specs.Sources.{HasVerdict, source_shown};
 
@@ -124,6 +126,8 @@ impl Consumer for SourceReader {
     ghost shows = { source_shown };
 
     ghost judges = { HasVerdict };
+
+    ghost most = { greatest_of SourceBytes };
 
     fn feed(&mut self, piece: &[u8]) -> Result<(), Outcome> {
         let held = self.head.bytes().len();
@@ -151,6 +155,8 @@ impl Consumer for SourceReader {
     }
 
     ghost quiet = { none_quiet };
+
+    ghost counted = { source_bytes_counted };
 
     ghost limited = { long_shown };
 }

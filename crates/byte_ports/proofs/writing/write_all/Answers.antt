@@ -1,7 +1,8 @@
 -- Each write takes the sink further in the piece, and one that fails leaves it where it was.
 use Rattle.std.proofs.Common.{arith, ◌∙◌}
 use Rattle.std.proofs.lemmas.Grind.{common_steps}
-use Rattle.byte_ports.proofs.Pieces.{grown_further, failed_so_far}
+use Rattle.byte_ports.proofs.CallerLemmas.{grown_further}
+use Rattle.byte_ports.proofs.Pieces.{failed_so_far}
 use Rattle.byte_ports.proofs.writing.write_all.Goals as goal
 
 pub loop-at-preserved : goal.loop-at-preserved

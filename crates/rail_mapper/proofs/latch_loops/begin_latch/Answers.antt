@@ -1,4 +1,4 @@
-use Rattle.std.proofs.Common.{◌≡◌, ◌+◌, ◌∙◌, ap}
+use Rattle.std.proofs.Common.{◌≡◌, ◌+◌, ◌∙◌, ap, arith}
 use Rattle.pulse_ids.specs.Ids.{NodeId, NodeLit}
 use Rattle.aig_core.specs.Graphs.{PlainGraph}
 use Rattle.rail_mapper.specs.Stages.{BeginsLatch}
@@ -26,5 +26,6 @@ pub returns-clause-lines : goal.returns-clause-lines
 returns-clause-lines c =
     on_ok c.begin_latch.result _ _
     (λ (begins : BeginsLatch c.args.latch c.init-init.result c.rail_of-pos.result c.rail_of-neg.result c.args.draft.now c.begin_latch.new.self) first lines.
-    backs_lines c.args.latch c.init-init.result c.rail_of-pos.result c.rail_of-neg.result first c.args.draft.now c.begin_latch.new.self lines begins)
+    backs_lines c.args.latch c.init-init.result c.rail_of-pos.result c.rail_of-neg.result first c.args.draft.now c.begin_latch.new.self
+    (λ e. absurd (omega (arith, e, c.rail_of-pos.ensures, c.rail_of-neg.ensures))) lines begins)
     c.begin_latch.ensures

@@ -1,5 +1,5 @@
 -- The bytes so far were taken without a fault, the reader has them, and they show no refusal.
-use Rattle.std.proofs.Common.{◌≡◌, ◌+◌, ◌-◌, ◌^◌, ℕ, List, None, length}
+use Rattle.std.proofs.Common.{◌≡◌, ◌+◌, ◌-◌, ℕ, List, None, length}
 use Rattle.std.specs.Io.KnownBytes.{Consumes}
 use Rattle.xsfq_cli.proofs.consuming.take_all.Given as goal
 
@@ -11,4 +11,4 @@ invariant-loop-count g l = record {
 }
 
 abbrev pub decreases-loop-count : goal.decreases-loop-count
-decreases-loop-count g l = 2 ^ 26 + 1 - l.taken
+decreases-loop-count g l = g.C.Consumer.most + 1 - l.taken

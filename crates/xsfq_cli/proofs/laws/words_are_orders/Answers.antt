@@ -13,6 +13,8 @@ returns c = record {
   no_value = refl;
   other_value = refl;
   other_option = refl;
+  check = refl;
+  check_with_rails = refl;
   other_command = refl;
   option_first = refl;
 }

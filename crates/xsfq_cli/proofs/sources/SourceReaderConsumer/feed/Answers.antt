@@ -26,14 +26,6 @@ returns-in-Ok-clause-early c = λ text has.
     (c.feed_aiger.ensures.early before is))
     (subst (λ (result : Result Unit AigerRefusal). IsAnswer result (Ok tt)) (sym c.in-Ok.is) tt)
 
-pub returns-in-Err-clause-read : goal.returns-in-Err-clause-read
-returns-in-Err-clause-read c = λ text has.
-    fed_more text c.args.self.now.head c.args.piece.now c.feed_aiger.new.self.head c.take-count.result _ c.feed_aiger.new.self.aiger has
-    (c.feed_aiger.ensures.head ∙ c.take-count.ensures.head) (search rules) (search rules)
-    (λ before is. subst (λ (l : List ℕ). IsReading Refuse (before ++ l) c.feed_aiger.new.self.aiger)
-    (fed_bytes c.bytes-held.result.now c.args.self.now.head c.take-count.new.self c.feed_aiger.new.self.head c.args.piece.now c.take-count.result c.bytes-held.ensures (sym c.feed_aiger.ensures.head))
-    (c.feed_aiger.ensures.read before is))
-
 pub returns-in-Err-clause-early : goal.returns-in-Err-clause-early
 returns-in-Err-clause-early c = λ text has.
     told_more text c.args.self.now.head c.args.piece.now c.feed_aiger.new.self.head c.take-count.result _ c.feed_aiger.result (Err c.from.result) has

@@ -1,0 +1,22 @@
+-- The proofs of the reader of BLIF.
+pub mod Keys
+pub mod Numbers
+pub mod Fails
+pub mod Marks
+pub mod Inversions
+pub mod Bounding
+pub mod LineBounds
+pub mod Taking
+pub mod Limits
+pub mod UseLemmas
+pub mod Faults
+pub mod Judgements
+pub mod LastLines
+pub mod FirstNames
+pub mod Sayings
+pub mod WordTellings
+pub mod LatchTellings
+pub mod LineTellings
+pub mod RowTellings
+pub mod SourceTellings
+pub mod OfBytes

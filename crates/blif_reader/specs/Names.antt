@@ -1,0 +1,30 @@
+-- Numbers of names by first appearance.
+use Rattle.std.specs.Prelude.{◌≡◌, ℕ, ◌+◌, ◌++◌, List, [], ◌∷◌, Option, Some, None, length, unwrap_or, if◌then◌else◌}
+use Rattle.std.specs.Option.{is_some}
+use Rattle.std.specs.Str.{bytes_eq}
+use Rattle.std.specs.Global.{Vec}
+use Rattle.std.specs.BTreeMap.{BTreeMap, get_by}
+use Rattle.std.specs.Ordering.{nat_cmp}
+use Rattle.std.specs.Cmp.Lexicographic.{slice_cmp}
+
+-- the number of a name among names that are numbered on from this one
+abbrev pub number_from : ℕ → List (List ℕ) → List ℕ → Option ℕ
+number_from first [] name = None
+number_from first (other ∷ names) name = if bytes_eq name other then Some first else number_from (first + 1) names name
+
+-- the number of a name, from 1
+abbrev pub number_in : List (List ℕ) → List ℕ → Option ℕ
+number_in names name = number_from 1 names name
+
+-- the names with this one, which stands last where it is new
+abbrev pub names_with : List (List ℕ) → List ℕ → List (List ℕ)
+names_with names name = if is_some (number_in names name) then names else names ++ name ∷ []
+
+-- the number of a name among the names with it
+abbrev pub number_for : List (List ℕ) → List ℕ → ℕ
+number_for names name = unwrap_or (number_in names name) (length names + 1)
+
+-- a table has exactly these numbers
+abbrev pub HasNumbers : List (List ℕ) → BTreeMap (Vec ℕ) ℕ → Type 0
+HasNumbers names numbers =
+    (name : List ℕ) → get_by (λ key. slice_cmp nat_cmp name key.items) numbers ≡ number_in names name

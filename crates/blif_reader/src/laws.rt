@@ -1,0 +1,16 @@
+//! Laws of sources, each on a function with an empty body.
+
+ghost use Rattle.blif_reader.specs.Laws.{EarlyStands, SourcesAreTold};
+
+/// A refusal that the first bytes of a source show stays shown, and is its verdict.
+pub fn early_refusals_stand()
+    ensures { EarlyStands }
+{}
+
+/// What logical lines build is what their words tell: the nets are the names in the order in which they first appear,
+/// the ports the words of their lines, each equation the rows under its `.names` line, each latch the words of its
+/// line, the clock the first name of one. The first line that is refused refuses them all. A source that is judged to
+/// be a machine is the one that its lines tell, and no judgement is want of memory.
+pub fn sources_are_told()
+    ensures { SourcesAreTold }
+{}

@@ -1,0 +1,13 @@
+-- The lemmas of this crate.
+pub mod Feeding
+pub mod Walking
+pub mod Greatest
+pub mod Reaching
+pub mod Levels
+pub mod DepthsOfCells
+pub mod Tracing
+pub mod Lowest
+pub mod Sizes
+pub mod PathLaws
+pub mod Counting
+pub mod ReportLines

@@ -1,0 +1,9 @@
+-- The words of reports.
+pub mod Walks
+pub mod Paths
+pub mod Counts
+pub mod Reports
+pub mod Needs
+pub mod Depths
+pub mod Traces
+pub mod Texts

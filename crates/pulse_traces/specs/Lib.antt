@@ -1,0 +1,7 @@
+-- The definitions of simulations and their text.
+pub mod SimulationTexts
+pub mod Pieces
+pub mod Orders
+pub mod Rooms
+pub mod Simulations
+pub mod Scripts

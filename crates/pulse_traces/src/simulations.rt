@@ -1,0 +1,146 @@
+//! A simulation: all its memory, and the writing of its text.
+
+ghost use Rattle.std.specs.Prelude.{◌≡◌, ◌<◌, ◌≤◌, ◌-◌, ◌*◌, ◌/◌, ◌^◌, List, Bool, IfOk, length};
+ghost use Rattle.pulse_ids.specs.Ids.{WireId};
+ghost use Rattle.pulse_ids.specs.Lists.{IsIn};
+ghost use Rattle.schedule_replay.specs.Choosing.{AnswersBelow};
+ghost use Rattle.schedule_replay.specs.Orders.{IsBetween};
+ghost use Rattle.pulse_traces.specs.Orders.{mixed};
+ghost use Rattle.pulse_traces.specs.Rooms.{HasRooms};
+ghost use Rattle.pulse_traces.specs.Scripts.{WritesReplay, scripted};
+ghost use Rattle.pulse_traces.specs.Simulations.{Follows, WritesCycles, WritesSimulation};
+
+use crate::cycles::{CycleRoom, write_cycles};
+use crate::orders::DeliveryOrder;
+use crate::scripts::{CycleFault, write_scripted};
+use byte_ports::{Failed, Sink};
+use cell_netlist::SoundNet;
+use pulse_ids::NoMemory;
+use pulse_world::World;
+use schedule_replay::{Choose, Chooser, Vectors};
+use std::alloc::Global;
+use std::marker::Model;
+
+/// The pulses of a sound netlist at its start, with all the memory that its simulation ever takes.
+#[derive(Debug, Drop)]
+pub struct Simulation<'a> {
+    world: World<'a>,
+    room: CycleRoom,
+}
+
+impl<'a> Model for Simulation<'a> {
+    ghost use Rattle.cell_netlist.specs.Netlists.{PlainNetlist};
+    ghost use Rattle.pulse_traces.specs.Rooms.{HasRooms};
+    ghost use Rattle.pulse_traces.specs.Simulations.{IsStart};
+
+    ghost Value = { PlainNetlist };
+
+    ghost view = { λ simulation. simulation.world.net };
+
+    ghost invariant = { λ simulation. IsStart simulation.world.net simulation.world × HasRooms simulation.world.net simulation.room };
+}
+
+/// Makes the chooser of a function, and writes the text of the cycles in its order.
+fn write_by<F: Fn(u64, u64) -> u64 + Choose + Drop, K: Sink>(
+    order: DeliveryOrder,
+    choose: F,
+    simulation: Simulation<'_>,
+    vectors: &Vectors,
+    trace: bool,
+    out: &mut K,
+) -> Result<(), Failed>
+    requires answers { AnswersBelow (F.Choose.takes choose) (F.Choose.names choose) }
+    requires order { Follows (F.Choose.names choose) order }
+    requires width { (vector : List Bool) → IsIn vector vectors.now.vectors → length vector ≡ simulation.inputs }
+    ensures { WritesSimulation order trace simulation.entry vectors.now.vectors (K.taken out.old) (K.taken out.new) (K.faults out.old) (K.faults out.new) result }
+{
+    let chooser = Chooser::new(choose);
+    let mut world = simulation.world;
+    let mut room = simulation.room;
+    let _ = world.phase();
+    write_cycles(order, &mut world, &chooser, vectors, trace, &mut room, out)
+}
+
+impl<'a> Simulation<'a> {
+    /// A netlist at its start. It takes all the memory that the simulation ever takes.
+    pub fn new(alloc: Global, net: &'a SoundNet) -> Result<Simulation<'a>, NoMemory>
+        ensures { IfOk result (λ simulation. simulation ≡ net.now) }
+    {
+        Ok(Simulation {
+            world: World::new(alloc, net)?,
+            room: CycleRoom::new(alloc, net)?,
+        })
+    }
+
+    /// Writes the text of the simulation on vectors, one bit an input port, in an order of deliveries, with or without
+    /// the deliveries. Each delivery takes constant time, and nothing takes memory. Where the sink fails, it took a
+    /// prefix of the text.
+    pub fn write<K: Sink>(
+        self,
+        order: DeliveryOrder,
+        trace: bool,
+        vectors: &Vectors,
+        out: &mut K,
+    ) -> Result<(), Failed>
+        requires width { (vector : List Bool) → IsIn vector vectors.now.vectors → length vector ≡ self.inputs }
+        ensures { WritesSimulation order trace self.entry vectors.now.vectors (K.taken out.old) (K.taken out.new) (K.faults out.old) (K.faults out.new) result }
+    {
+        match order {
+            DeliveryOrder::First => write_by(
+                order,
+                |_: u64, _: u64| -> u64
+                    ensures { result ≡ 0 }
+                { 0 },
+                self,
+                vectors,
+                trace,
+                out,
+            ),
+            DeliveryOrder::Last => write_by(
+                order,
+                |_: u64, count: u64| -> u64
+                    requires { 1 ≤ count }
+                    ensures { result ≡ count - 1 }
+                { count - 1 },
+                self,
+                vectors,
+                trace,
+                out,
+            ),
+            DeliveryOrder::Mix(number) => write_by(
+                order,
+                move |step: u64, count: u64| -> u64
+                    requires step { step < 2 ^ 63 }
+                    requires few { count ≤ 2 ^ 22 }
+                    ensures { result ≡ mixed number step * count / 2 ^ 32 }
+                {
+                    let mixed = (number as u64 + step) % 4_294_967_296 * 2_654_435_761
+                        % 4_294_967_296;
+                    mixed * count / 4_294_967_296
+                },
+                self,
+                vectors,
+                trace,
+                out,
+            ),
+        }
+    }
+
+    /// Writes the text of the simulation on vectors by their scripts, with or without the deliveries. It ends before
+    /// the first cycle in which a script has a fault, and answers that fault, if there is one.
+    pub fn write_scripted<K: Sink>(
+        self,
+        trace: bool,
+        vectors: &Vectors,
+        out: &mut K,
+    ) -> Result<Option<CycleFault>, Failed>
+        requires width { (vector : List Bool) → IsIn vector vectors.now.vectors → length vector ≡ self.inputs }
+        requires short { (script : List WireId) → IsIn script vectors.now.scripts → length script < 2 ^ 32 }
+        ensures { WritesReplay trace self.entry (scripted vectors.now) (K.taken out.old) (K.taken out.new) (K.faults out.old) (K.faults out.new) result }
+    {
+        let mut world = self.world;
+        let mut room = self.room;
+        let _ = world.phase();
+        write_scripted(&mut world, vectors, trace, &mut room, out)
+    }
+}

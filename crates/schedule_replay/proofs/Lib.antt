@@ -1,0 +1,16 @@
+pub mod Turns
+pub mod Scripts
+pub mod Deliverable
+pub mod OneList
+pub mod CyclesThere
+pub mod FlatLists
+pub mod Adding
+pub mod Spaces
+pub mod Tracking
+pub mod Showing
+pub mod Bounds
+pub mod Stopping
+pub mod InForm
+pub mod OneReplay
+pub mod ScriptsThere
+pub mod CallerLemmas

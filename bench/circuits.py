@@ -1,7 +1,7 @@
 #!/usr/bin/env python3
-"""Writes circuits as binary AIGER 1.9: python3 circuits.py counter|random CONJUNCTIONS > FILE
+"""Writes circuits as binary AIGER 1.9: python3 circuits.py counter|random CONJUNCTIONS > FILE, or counting BITS
 
-A counter has an enable, a shift and six conjunctions a bit; a random circuit has 64 inputs, 64 latches and 64 outputs, and
+A counter has an enable, a shift and six conjunctions a bit; the counting one has an enable and three; a random circuit has 64 inputs, 64 latches and 64 outputs, and
 each conjunction reads two of the 512 literals before it, with either sign. The seed is fixed, so a kind and a
 number give one file."""
 import random
@@ -53,6 +53,18 @@ def counter(size):
     return written(3, nexts, [latch(bit) for bit in range(bits)], conjunctions)
 
 
+def counting(bits):
+    """Counts where input 0 is 1, and does nothing else."""
+    latch = lambda bit: 2 * (2 + bit)
+    conjunctions, nexts, carry = [], [], 2
+    for bit in range(bits):
+        both = 2 * (2 + bits + len(conjunctions))
+        conjunctions += [(latch(bit), carry), (latch(bit) ^ 1, carry ^ 1), (both ^ 1, both + 3)]
+        nexts.append(both + 4)
+        carry = both
+    return written(1, nexts, [latch(bit) for bit in range(bits)], conjunctions)
+
+
 def randomly(size):
     draw = random.Random(1)
     conjunctions = []
@@ -69,4 +81,4 @@ def randomly(size):
 
 if __name__ == "__main__":
     kind, size = sys.argv[1], int(sys.argv[2])
-    sys.stdout.buffer.write({"counter": counter, "random": randomly}[kind](size))
+    sys.stdout.buffer.write({"counter": counter, "counting": counting, "random": randomly}[kind](size))

@@ -5,9 +5,9 @@
 #
 # FILE.v has a module of its own name, which is the top one; by default it is every .v file beside this script. The program
 # is by default what the launcher at the top built. FOLDER, by default out/ beside this script, gets NAME.aig, NAME.blif,
-# NAME.xsfq and, where the program reads BLIF, NAME.blif.xsfq. With --unset a flip-flop without a first bit starts with that
-# bit; without it such a design is refused. One line tells of each design. The exit status is 0 where all were compiled, or
-# where Yosys is missing, which is told; 1 where one was not; 2 where the words are wrong.
+# NAME.xsfq and NAME.blif.xsfq. With --unset a flip-flop without a first bit starts with that bit; without it such a design is
+# refused. One line tells of each file. The exit status is 0 where all were compiled, or where Yosys is missing, which is
+# told; 1 where one was not; 2 where the words are wrong.
 set -u
 unset CDPATH
 here=$(cd -- "$(dirname -- "$0")" && pwd) || exit 2
@@ -46,11 +46,6 @@ if [ ! -x "$program" ]; then
     exit 2
 fi
 mkdir -p -- "$into" || exit 2
-
-# Whether the program reads BLIF: it does not where it answers 10, not built yet.
-printf '.model wire\n.inputs a\n.outputs a\n.end\n' | "$program" compile >/dev/null 2>&1
-[ $? -ne 10 ]
-reads_blif=$?
 
 # synthesize FILE NAME: writes NAME.aig and NAME.blif. Each pass stands in docs/USING.md with the refusal that it removes.
 synthesize() {
@@ -100,7 +95,7 @@ flow() {
         return 1
     fi
     compile "$name" "$into/$name.aig" "$into/$name.xsfq" || return 1
-    [ "$reads_blif" -ne 0 ] || compile "$name" "$into/$name.blif" "$into/$name.blif.xsfq"
+    compile "$name" "$into/$name.blif" "$into/$name.blif.xsfq"
 }
 
 passed=0
@@ -113,6 +108,5 @@ for design; do
     fi
 done
 rm -f -- "$into/log"
-[ "$reads_blif" -eq 0 ] || echo "flow: this program reads no BLIF yet; the files are written, and not compiled"
 echo "flow: $passed compiled, $failed failed"
 [ "$failed" -eq 0 ]

@@ -119,11 +119,11 @@ fn conjunction(alloc: Global, said: (u32, u32, u32)) -> Result<Equation, NoMemor
     ensures { IfOk result (λ equation. equation_of equation ≡ plain_and said) }
 {
     let (left, first, second) = said;
-    let mut row = Cover::new(alloc);
-    row.push(literal(first))?;
-    row.push(literal(second))?;
+    let mut cube = Cover::new(alloc);
+    cube.push(literal(first))?;
+    cube.push(literal(second))?;
     let mut rows = Vec::with_capacity(alloc, 1)?;
-    rows.push(row)?;
+    rows.push(cube)?;
     Ok(Equation {
         net: NetId::new(left / 2),
         on: true,

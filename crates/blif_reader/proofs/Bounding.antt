@@ -1,29 +1,26 @@
 -- Each logical line leaves what is bounded.
-use Rattle.std.proofs.Common.{◌≡◌, ℕ, zero, suc, ◌+◌, ◌≤◌, ◌<◌, ◌==◌, ◌||◌, Bool, true, false, not, cond, List, [], ◌∷◌, ◌++◌, length, map, Option, Some, None, Result, Ok, Err, All, refl, sym, ap, subst, ◌∙◌, arith}
-use Rattle.std.specs.Prelude.{IfSome, ◌&&◌}
+use Rattle.std.proofs.Common.{◌≡◌, ℕ, ◌+◌, ◌≤◌, ◌==◌, ◌||◌, Bool, true, false, not, cond, List, [], ◌∷◌, length, Option, Some, None, Ok, All, refl, sym, ap, subst, arith}
+use Rattle.std.specs.Prelude.{◌&&◌}
 use Rattle.std.specs.Bool.{beq}
 use Rattle.std.proofs.lemmas.List.Elements.{All-nil, All-cons, All-head, All-tail, All-push, All-weaker}
 use Rattle.pulse_ids.specs.Quantities.{greatest_of}
 use Rattle.pulse_ids.specs.Names.{IsPortName}
 use Rattle.pulse_ids.specs.declared.quantities.Quantity.TheVariants as quantities
-use Rattle.word_scan.specs.Reading.{read_on, unless_refused}
-use Rattle.word_scan.proofs.CallerLemmasReading.{read_refused}
-use Rattle.word_scan.proofs.CallerLemmasLogical.{IsPlainWord, ArePlainWords}
-use Rattle.source_machine.specs.Machines.{PlainLiteral, PlainLatch, PlainEquation, PlainMachine}
+use Rattle.word_scan.proofs.CallerLemmasLogical.{IsPlainWord}
+use Rattle.source_machine.specs.Machines.{PlainLiteral, PlainEquation, PlainMachine}
 use Rattle.source_machine.specs.Fitting.{Fits, EquationFits, LiteralFits, IsNumbered, size_of, size_of_cubes}
-use Rattle.source_machine.specs.Additions.{bare, bare_equation, with_nets, with_input, with_output, with_latch, with_cube}
-use Rattle.source_machine.proofs.CallerLemmas.{bare_fits, bare_equation_fits, more_cube_fits, size_of_cubes-last, size_of_equations-last, more_nets_fit, more_input_fits, more_output_fits, more_latch_fits, more_equation_fits}
-use Rattle.blif_reader.specs.declared.refusals.LineRefusal.{LineRefusal}
+use Rattle.source_machine.specs.Additions.{with_nets, with_input, with_output}
+use Rattle.source_machine.proofs.CallerLemmas.{bare_fits, bare_equation_fits, more_cube_fits, size_of_cubes-last, size_of_equations-last, more_nets_fit, more_input_fits, more_output_fits, more_equation_fits}
 use Rattle.blif_reader.specs.declared.refusals.LineRefusal.TheVariants as line_refusals
 use Rattle.blif_reader.specs.declared.refusals.BlifCause.TheVariants as causes
 use Rattle.blif_reader.specs.Names.{number_for}
-use Rattle.blif_reader.specs.Rows.{is_care, cares_in, marked, literals_of, are_marks}
-use Rattle.blif_reader.specs.States.{BlifState, OpenEquation, nothing_read, closed, with_open, with_column, begun_equation}
+use Rattle.blif_reader.specs.Rows.{cares_in, literals_of}
+use Rattle.blif_reader.specs.States.{BlifState, OpenEquation, nothing_read, closed, with_open, with_column}
 use Rattle.blif_reader.specs.Statements.{input_read, output_read, column_read, has_rows, bit_added, with_row}
-use Rattle.blif_reader.specs.Latches.{net_read, latch_read, latch_added, state_given, clock_read}
-use Rattle.blif_reader.specs.Refusing.{after, over, unless_long}
+use Rattle.blif_reader.specs.Latches.{net_read}
+use Rattle.blif_reader.specs.Refusing.{after, over}
 use Rattle.blif_reader.specs.Bounds.{OpenFits, size_of_open, IsBounded}
-use Rattle.blif_reader.proofs.Inversions.{either, allowed, over_ok, after_ok, NetRead, net_is_read}
+use Rattle.blif_reader.proofs.Inversions.{allowed, over_ok, after_ok, net_is_read}
 
 -- nothing is read
 pub nothing_bounded : IsBounded nothing_read
@@ -161,7 +158,8 @@ pub closed_bounded : (state : BlifState) → IsBounded state → IsBounded (clos
 closed_bounded state bounded = closed_by state bounded state.unended refl
 
 -- the machine of closed lines fits
-pub whole_fits : (state after : BlifState) (machine : PlainMachine) (nets : List (List ℕ)) → IsBounded state → after ≡ closed state → after.machine ≡ machine → after.nets ≡ nets → Fits (with_nets machine (length nets))
+pub whole_fits : (state after : BlifState) (machine : PlainMachine) (nets : List (List ℕ)) → IsBounded state → after ≡ closed state → after.machine ≡ machine
+    → after.nets ≡ nets → Fits (with_nets machine (length nets))
 whole_fits state after machine nets bounded is same names =
     let fits : Fits (with_nets after.machine (length after.nets)) = subst (λ (s : BlifState). Fits (with_nets s.machine (length s.nets))) (sym is) (closed_bounded state bounded).fits in
     subst (λ (m : PlainMachine). Fits (with_nets m (length nets))) same (subst (λ (n : List (List ℕ)). Fits (with_nets after.machine (length n))) names fits)
@@ -176,7 +174,8 @@ literals_fit : (nets : ℕ) (columns marks : List ℕ) → All (IsNumbered nets)
 literals_fit nets [] marks numbered = All-nil (LiteralFits nets)
 literals_fit nets (net ∷ columns) [] numbered = All-nil (LiteralFits nets)
 literals_fit nets (net ∷ columns) (mark ∷ marks) numbered =
-    literal_fits (mark == 49) (mark == 48) nets net (literals_of columns marks) (All-head (IsNumbered nets) net columns numbered) (literals_fit nets columns marks (All-tail (IsNumbered nets) net columns numbered))
+    literal_fits (mark == 49) (mark == 48) nets net (literals_of columns marks) (All-head (IsNumbered nets) net columns numbered)
+    (literals_fit nets columns marks (All-tail (IsNumbered nets) net columns numbered))
 
 one_counted : (a b : Bool) (net cares : ℕ) (more : List PlainLiteral) → length more ≡ cares
     → length (cond a (record { net = net; negated = false } ∷ more) (cond b (record { net = net; negated = true } ∷ more) more)) ≡ cond (b || a) 1 0 + cares
@@ -209,7 +208,11 @@ bit_bounded state next unended marks (Some bit) bounded is same h =
     subst (λ (s : BlifState). IsBounded s) same_state (record {
       few = bounded.few;
       fits = bounded.fits;
-      open_fits = (more_cube_fits (length state.nets) (record unended.equation { on = bit }) (literals_of unended.columns marks) fits.0 (literals_fit (length state.nets) unended.columns marks fits.1), fits.1);
+      open_fits = (
+        more_cube_fits (length state.nets) (record unended.equation { on = bit }) (literals_of unended.columns marks) fits.0
+            (literals_fit (length state.nets) unended.columns marks fits.1),
+        fits.1,
+      );
       size = omega (arith, before, last, count);
       small = size.0;
     })

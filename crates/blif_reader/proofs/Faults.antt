@@ -1,6 +1,5 @@
 -- A machine's refusal names a net.
-use Rattle.std.proofs.Common.{◌≡◌, ◌≢◌, ℕ, zero, suc, ◌+◌, ◌-◌, ◌<◌, ◌≤◌, List, length, subst, map, refl, arith}
-use Rattle.pulse_ids.specs.Lists.{IsIn}
+use Rattle.std.proofs.Common.{◌≡◌, ℕ, zero, suc, ◌≤◌, subst, map, refl, arith}
 use Rattle.pulse_ids.proofs.CallerLemmas.{IsIn-right}
 use Rattle.pulse_ids.proofs.CallerLemmasOnCounts.{occurrences-IsIn}
 use Rattle.source_machine.specs.declared.grounding.Grounding.{Grounding}

@@ -1,5 +1,5 @@
 -- What is known where nothing is refused.
-use Rattle.std.proofs.Common.{◌≡◌, ℕ, zero, suc, ◌+◌, ◌≤◌, ◌<◌, Bool, true, false, cond, ltb, List, [], ◌∷◌, ◌++◌, length, length-append, Option, Some, None, Result, Ok, Err, refl, sym, ap, subst, ◌∙◌, arith}
+use Rattle.std.proofs.Common.{◌≡◌, ℕ, ◌+◌, ◌≤◌, Bool, true, false, cond, ltb, List, [], ◌∷◌, ◌++◌, length, length-append, Option, Some, None, Result, Ok, Err, refl, ap, subst, ◌∙◌, arith}
 use Rattle.std.specs.Option.{is_some}
 use Rattle.std.specs.Str.{bytes_eq}
 use Rattle.std.proofs.lemmas.Bool.{ltb-false}
@@ -9,7 +9,7 @@ use Rattle.pulse_ids.specs.declared.quantities.Quantity.TheVariants as quantitie
 use Rattle.blif_reader.specs.declared.refusals.LineRefusal.{LineRefusal}
 use Rattle.blif_reader.specs.declared.refusals.LineRefusal.TheVariants.{Limit}
 use Rattle.blif_reader.specs.Names.{number_from, number_in, names_with, number_for}
-use Rattle.blif_reader.specs.Refusing.{after, over, unless_long}
+use Rattle.blif_reader.specs.Refusing.{after, over}
 use Rattle.blif_reader.specs.Latches.{net_read}
 use Rattle.blif_reader.proofs.Numbers.{number_bound}
 
@@ -62,7 +62,8 @@ with_by (Some number) nets name = nets
 read_by : (nets new : List (List ℕ)) (name : List ℕ) → length nets ≤ greatest_of quantities.Nets → (found : Option ℕ) → number_in nets name ≡ found
     → cond (is_some (number_in nets name)) (Ok nets) (over quantities.Nets (length nets + 1) (Ok (names_with nets name))) ≡ Ok new → NetRead nets new name
 read_by nets new name few (Some number) e h =
-    let same : nets ≡ new = let k : ◌≡◌ {A = Result (List (List ℕ)) LineRefusal} (Ok nets) (Ok new) = subst (λ (o : Option ℕ). cond (is_some o) (Ok nets) (over quantities.Nets (length nets + 1) (Ok (names_with nets name))) ≡ Ok new) e h in cc in
+    let same : nets ≡ new = let k : ◌≡◌ {A = Result (List (List ℕ)) LineRefusal} (Ok nets) (Ok new) =
+    subst (λ (o : Option ℕ). cond (is_some o) (Ok nets) (over quantities.Nets (length nets + 1) (Ok (names_with nets name))) ≡ Ok new) e h in cc in
     subst (λ (n : List (List ℕ)). NetRead nets n name) same (record {
       grows = omega arith;
       few = few;

@@ -1,12 +1,11 @@
 -- What the end of a text shows.
-use Rattle.std.proofs.Common.{◌≡◌, ℕ, ◌+◌, ◌<◌, ◌≤◌, ◌⊎◌, inl, inr, Bool, true, false, cond, ltb, List, [], ◌∷◌, ◌++◌, length, take, Option, Some, None, Result, Ok, Err, refl, sym, ap, subst, ◌∙◌, arith}
+use Rattle.std.proofs.Common.{◌≡◌, ℕ, ◌+◌, ◌<◌, ◌≤◌, ◌⊎◌, inl, inr, Bool, true, false, cond, ltb, List, ◌++◌, length, Option, Some, None, Result, Ok, Err, refl, sym, ap, subst, ◌∙◌}
 use Rattle.std.specs.Prelude.{unwrap_or}
 use Rattle.std.specs.Option.{option_or}
 use Rattle.std.proofs.lemmas.Bool.{lt-ltb, le-ltb, cases_lt}
 use Rattle.std.proofs.lemmas.List.{take_all}
 use Rattle.pulse_ids.specs.declared.quantities.Quantity.TheVariants as quantities
 use Rattle.source_machine.specs.declared.unset.Unset.{Unset}
-use Rattle.source_machine.specs.Machines.{PlainMachine}
 use Rattle.word_scan.specs.Lines.{PlainLines, whole_lines, last_line, begun, next_number}
 use Rattle.word_scan.specs.Logical.{LogicalLine, PlainLogical, logical_after, logical_begun, begun_line}
 use Rattle.blif_reader.specs.declared.refusals.BlifRefusal.{BlifRefusal}
@@ -61,12 +60,14 @@ early_judged unset text refusal h = by_length (cases_lt limit (length text))
 pub last_read : (unset : Unset) (text : List ℕ) (lines : PlainLines) (logical : PlainLogical) (state : BlifState) → HasRead unset text lines logical state
     → lines_read unset (Ok nothing_read) (all_logical_lines text) ≡ lines_read unset (Ok state) (lines_left (begun lines) (next_number lines) (begun_line logical))
 last_read unset text lines logical state has =
-    let at_end : (line : List ℕ) → lines_read unset (Ok nothing_read) (logical_after None 1 (whole_lines text ++ line_begun line) ++ logical_left (logical_begun None 1 (whole_lines text ++ line_begun line)))
+    let at_end : (line : List ℕ) → lines_read unset (Ok nothing_read) (logical_after None 1 (whole_lines text ++ line_begun line) ++ logical_left
+    (logical_begun None 1 (whole_lines text ++ line_begun line)))
     ≡ lines_read unset (Ok state) (lines_left line (next_number lines) (begun_line logical)) = λ line.
     let last : List (List ℕ) = line_begun line in
     read_joined unset (Ok nothing_read) (logical_after None 1 (whole_lines text ++ last)) (logical_left (logical_begun None 1 (whole_lines text ++ last)))
     ∙ ap (λ (r : Result BlifState BlifRefusal). lines_read unset r (logical_left (logical_begun None 1 (whole_lines text ++ last)))) (lines_on unset text lines logical state has last)
-    ∙ ap (λ (b : Option LogicalLine). lines_read unset (lines_read unset (Ok state) (logical_after (begun_line logical) (next_number lines) last)) (logical_left b)) (begun_lines unset text lines logical state has last)
+    ∙ ap (λ (b : Option LogicalLine). lines_read unset (lines_read unset (Ok state) (logical_after (begun_line logical) (next_number lines) last)) (logical_left b))
+    (begun_lines unset text lines logical state has last)
     ∙ sym (read_joined unset (Ok state) (logical_after (begun_line logical) (next_number lines) last) (logical_left (logical_begun (begun_line logical) (next_number lines) last))) in
     at_end (last_line text) ∙ ap (λ (l : List ℕ). lines_read unset (Ok state) (lines_left l (next_number lines) (begun_line logical))) has.at.present
 
@@ -77,7 +78,8 @@ pub record Going (unset : Unset) (text : List ℕ) (reading : Reading) : Type 0 
 
 pub going : (unset : Unset) (text : List ℕ) (reading : Reading) → reading.stopped ≡ None → IsReading unset text reading → Going unset text reading
 going unset text reading is read =
-    let h : HasStopped unset text None reading.lines reading.logical reading.state = subst (λ (s : Option BlifRefusal). HasStopped unset text s reading.lines reading.logical reading.state) is read.stopped in
+    let h : HasStopped unset text None reading.lines reading.logical reading.state =
+    subst (λ (s : Option BlifRefusal). HasStopped unset text s reading.lines reading.logical reading.state) is read.stopped in
     record {
       choice = read.choice;
       judgement_is = judged unset text h.0 ∙ ap source_read (last_read unset text reading.lines reading.logical reading.state h.1
@@ -88,7 +90,8 @@ going unset text reading is read =
 pub stopped_is : (unset : Unset) (text : List ℕ) (reading : Reading) (refusal : BlifRefusal) → reading.stopped ≡ Some refusal → IsReading unset text reading
     → OrMemory refusal (IsVerdictOf (judgement unset text) (Err refusal))
 stopped_is unset text reading refusal is read =
-    or_memory_then refusal _ _ (λ h. subst (λ (j : Result PlainSource BlifRefusal). IsVerdictOf j (Err refusal)) (sym (early_judged unset text refusal h)) refl) (stands unset text reading refusal is read)
+    or_memory_then refusal _ _ (λ h. subst (λ (j : Result PlainSource BlifRefusal). IsVerdictOf j (Err refusal)) (sym (early_judged unset text refusal h)) refl)
+    (stands unset text reading refusal is read)
 
 -- a refusal of the last lines
 pub last_is : (unset : Unset) (text : List ℕ) (reading : Reading) (refusal : BlifRefusal) → Going unset text reading

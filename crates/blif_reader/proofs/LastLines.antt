@@ -1,5 +1,5 @@
 -- The lines that the end of a text closes.
-use Rattle.std.proofs.Common.{◌≡◌, ℕ, List, [], ◌∷◌, ◌++◌, Option, Result, Ok, Err, ap, ◌∙◌}
+use Rattle.std.proofs.Common.{◌≡◌, ℕ, List, [], ◌∷◌, Option, Result, Ok, Err, ap, ◌∙◌}
 use Rattle.source_machine.specs.declared.unset.Unset.{Unset}
 use Rattle.word_scan.specs.Logical.{LogicalLine, logical_after, logical_begun}
 use Rattle.blif_reader.specs.declared.refusals.BlifRefusal.{BlifRefusal}

@@ -1,5 +1,5 @@
 -- What the line of a latch adds.
-use Rattle.std.proofs.Common.{◌≡◌, ℕ, ◌+◌, Bool, true, false, ◌||◌, cond, List, [], ◌∷◌, ◌++◌, length, Option, Some, None, Result, Ok, Err, codes, refl, sym, ap, subst, ◌∙◌}
+use Rattle.std.proofs.Common.{◌≡◌, ℕ, ◌+◌, Bool, true, false, ◌||◌, cond, List, [], ◌∷◌, ◌++◌, length, Option, Some, None, Ok, Err, codes, refl, sym, ap, subst, ◌∙◌}
 use Rattle.std.specs.Prelude.{unwrap_or}
 use Rattle.std.specs.Option.{option_or}
 use Rattle.std.specs.Str.{bytes_eq}
@@ -18,7 +18,7 @@ use Rattle.blif_reader.specs.States.{BlifState}
 use Rattle.blif_reader.specs.Latches.{net_read, latch_read, latch_added, state_given, untyped_read, typed_read, latch_words_read, is_mixed, with_type, edge_of, first_state, names_clock}
 use Rattle.blif_reader.specs.Tellings.{net_of, latch_told, value_in, bit_given, control_in, ends_of, first_of}
 use Rattle.blif_reader.proofs.Inversions.{allowed, over_ok, after_ok}
-use Rattle.blif_reader.proofs.FirstNames.{Extends, extends_on, extends_with, net_kept}
+use Rattle.blif_reader.proofs.FirstNames.{extends_on, extends_with, net_kept}
 use Rattle.blif_reader.proofs.Sayings.{Said, nothing_said, Tells, or_none}
 use Rattle.blif_reader.proofs.WordTellings.{Keeps, net_named}
 
@@ -77,7 +77,12 @@ latched_tells : (unset : Unset) (state typed next : BlifState) (input output val
     → Latched unset typed next input output value → Tells state next (says_latch unset (input ∷ output ∷ more)) × Keeps state next
 latched_tells unset state typed next input output value more v nets machine unended modelled clocked clock l =
     let middle : List (List ℕ) = names_with state.nets input in
-    let latch : List (List ℕ) → PlainLatch = λ (n : List (List ℕ)). record { out = number_for (names_with n input) output; init = l.bit; next = record { net = number_for n input; negated = false } } in
+    let latch : List (List ℕ) → PlainLatch = λ (n : List (List ℕ)). record {
+      out = number_for (names_with n input) output;
+      init = l.bit;
+      next =
+          record { net = number_for n input; negated = false };
+    } in
     let new : BlifState = record typed { nets = names_with middle output; machine = with_latch state.machine (latch state.nets) } in
     let is : new ≡ next =
     ap (λ m. record typed { nets = names_with middle output; machine = with_latch m (latch state.nets) }) (sym machine)

@@ -1,5 +1,5 @@
 -- Texts up to the limit and past it, and what a reading answers.
-use Rattle.std.proofs.Common.{◌≡◌, ℕ, ◌+◌, ◌-◌, ◌<◌, ◌≤◌, min, Bool, true, false, ltb, cond, List, [], ◌∷◌, ◌++◌, length, take, Option, Some, None, Result, Ok, Err, refl, sym, ap, subst, ◌∙◌, arith}
+use Rattle.std.proofs.Common.{◌≡◌, ℕ, ◌+◌, ◌-◌, ◌<◌, ◌≤◌, min, Bool, true, false, ltb, cond, List, ◌++◌, length, take, Option, Some, None, Result, Ok, Err, refl, sym, ap, subst, ◌∙◌, arith}
 use Rattle.std.specs.Option.{option_or}
 use Rattle.std.proofs.lemmas.Bool.{lt-ltb, le-ltb, ltb-true}
 use Rattle.std.proofs.lemmas.List.{length-append, take_all, take-append-le}
@@ -77,13 +77,15 @@ module _ (unset : Unset) where
       record {
         choice = choice ∙ read.choice;
         taken = omega (arith, read.taken, taken, length-append text piece);
-        stopped = subst (λ (s : Option BlifRefusal). HasStopped unset (text ++ piece) s new.lines new.logical new.state) (sym (same ∙ is)) (or_memory_then refusal _ _ (early_stays text piece refusal) h);
+        stopped = subst (λ (s : Option BlifRefusal). HasStopped unset (text ++ piece) s new.lines new.logical new.state) (sym (same ∙ is))
+            (or_memory_then refusal _ _ (early_stays text piece refusal) h);
       }
 
   -- nothing is shown where nothing stopped
   pub answers_going : (text : List ℕ) (reading : Reading) → reading.stopped ≡ None → IsReading unset text reading → early unset text ≡ None
   answers_going text reading is read =
-      let stands : HasStopped unset text None reading.lines reading.logical reading.state = subst (λ (s : Option BlifRefusal). HasStopped unset text s reading.lines reading.logical reading.state) is read.stopped in
+      let stands : HasStopped unset text None reading.lines reading.logical reading.state =
+      subst (λ (s : Option BlifRefusal). HasStopped unset text s reading.lines reading.logical reading.state) is read.stopped in
       early_quiet text reading.state (ap (text_read unset) (take_all limit text stands.0) ∙ stands.1.reads) ∙ not_too_long text stands.0
 
   pub stands : (text : List ℕ) (reading : Reading) (refusal : BlifRefusal) → reading.stopped ≡ Some refusal → IsReading unset text reading → OrMemory refusal (early unset text ≡ Some refusal)

@@ -1,13 +1,12 @@
 -- Each logical line that is read leaves what is bounded.
-use Rattle.std.proofs.Common.{◌≡◌, ◌^◌, ℕ, zero, suc, ◌+◌, ◌≤◌, ◌<◌, ◌==◌, ◌||◌, ◌&&◌, Bool, true, false, not, cond, List, [], ◌∷◌, length, Option, Some, None, Result, Ok, Err, codes, refl, sym, ap, subst, ◌∙◌, arith}
+use Rattle.std.proofs.Common.{◌≡◌, ◌^◌, ℕ, ◌+◌, ◌≤◌, ◌==◌, ◌&&◌, Bool, true, false, cond, List, [], ◌∷◌, length, Option, Some, None, Result, Ok, Err, codes, refl, sym, subst, ◌∙◌, arith}
 use Rattle.std.specs.Prelude.{slice_index}
 use Rattle.std.specs.Option.{option_or}
 use Rattle.std.specs.Str.{bytes_eq}
-use Rattle.std.specs.List.{list_all}
 use Rattle.std.proofs.lemmas.Bool.{eqb-true}
 use Rattle.pulse_ids.specs.declared.quantities.Quantity.TheVariants as quantities
 use Rattle.word_scan.specs.Logical.{dark_words, has_strange}
-use Rattle.word_scan.specs.Reading.{read_on, unless_refused}
+use Rattle.word_scan.specs.Reading.{read_on}
 use Rattle.word_scan.proofs.CallerLemmasReading.{read_refused}
 use Rattle.word_scan.proofs.CallerLemmasLogical.{IsPlainWord, ArePlainWords, words_plain}
 use Rattle.source_machine.specs.declared.unset.Unset.{Unset}
@@ -18,23 +17,24 @@ use Rattle.blif_reader.specs.declared.refusals.LineRefusal.{LineRefusal}
 use Rattle.blif_reader.specs.declared.refusals.LineRefusal.TheVariants as line_refusals
 use Rattle.blif_reader.specs.declared.refusals.BlifCause.TheVariants as causes
 use Rattle.blif_reader.specs.Names.{number_for}
-use Rattle.blif_reader.specs.Rows.{row_words, are_marks, bit_of, is_mark}
+use Rattle.blif_reader.specs.Rows.{are_marks, bit_of}
 use Rattle.blif_reader.specs.States.{BlifState, OpenEquation, closed}
 use Rattle.blif_reader.specs.Latches.{net_read, latch_read, latch_added, state_given, clock_read, differs_in_clock, untyped_read, typed_read, latch_words_read, is_mixed, with_type, edge_of, first_state}
-use Rattle.blif_reader.specs.Statements.{model_read, input_read, output_read, column_read, names_read, end_read, is_passed_over, statement_read, bit_added, row_added, row_read_by, row_read, words_read, text_line_read}
-use Rattle.blif_reader.specs.Refusing.{after, over, unless_long}
+use Rattle.blif_reader.specs.Statements.{model_read, input_read, output_read, column_read, names_read, end_read, is_passed_over, statement_read, bit_added, row_added, row_read_by, words_read, text_line_read}
 use Rattle.blif_reader.specs.Bounds.{IsBounded}
 use Rattle.blif_reader.proofs.Inversions.{either, allowed, over_ok, after_ok, NetRead, net_is_read}
 use Rattle.blif_reader.proofs.Bounding.{kept_bounded, nets_bounded, input_bounded, output_bounded, column_bounded, closed_bounded, bit_bounded}
 
 -- the first word's result is read on, where the words are
-pub goes_by : (read : BlifState → List ℕ → Result BlifState LineRefusal) (Q : Type 0) (result : Result BlifState LineRefusal) (words : List (List ℕ)) (next : BlifState) → read_on read result words ≡ Ok next
+pub goes_by : (read : BlifState → List ℕ → Result BlifState LineRefusal) (Q : Type 0) (result : Result BlifState LineRefusal) (words : List (List ℕ)) (next : BlifState)
+    → read_on read result words ≡ Ok next
     → ((middle : BlifState) → result ≡ Ok middle → read_on read (Ok middle) words ≡ Ok next → Q) → Q
 goes_by read Q (Ok middle) words next h f = f middle refl h
 goes_by read Q (Err refusal) words next h f =
     let k : ◌≡◌ {A = Result BlifState LineRefusal} (Err refusal) (Ok next) = sym (read_refused read refusal words) ∙ h in absurd cc
 
-module _ (read : BlifState → List ℕ → Result BlifState LineRefusal) (each : (state next : BlifState) (word : List ℕ) → IsBounded state → IsPlainWord word → read state word ≡ Ok next → IsBounded next) where
+module _ (read : BlifState → List ℕ → Result BlifState LineRefusal) (each : (state next : BlifState) (word : List ℕ) → IsBounded state → IsPlainWord word
+    → read state word ≡ Ok next → IsBounded next) where
   -- words that are read one after the other
   pub words_bounded : (state next : BlifState) (words : List (List ℕ)) → IsBounded state → ArePlainWords words → read_on read (Ok state) words ≡ Ok next → IsBounded next
   words_bounded state next [] bounded plain h = let is : state ≡ next = cc in subst (λ (s : BlifState). IsBounded s) is bounded
@@ -82,7 +82,8 @@ untyped_bounded unset state next input output value bounded h =
     let b = over_ok quantities.NameBytes (length output) _ next a.1 in
     latch_bounded unset state next input output init.0 bounded b.1
 
-typed_bounded : (unset : Unset) (state next : BlifState) (input output kind control value : List ℕ) → IsBounded state → typed_read unset state input output kind control value ≡ Ok next → IsBounded next
+typed_bounded : (unset : Unset) (state next : BlifState) (input output kind control value : List ℕ) → IsBounded state
+    → typed_read unset state input output kind control value ≡ Ok next → IsBounded next
 typed_bounded unset state next input output kind control value bounded h =
     let edge = after_ok (edge_of kind) _ next h in
     let init = after_ok (first_state value) _ next edge.2 in
@@ -156,7 +157,8 @@ marks_bounded state next unended (Some said) bounded is h = by_marks (are_marks 
     by_marks true e k = bit_bounded state next unended said.0 (bit_of said.1) bounded is (eqb-true _ _ (both_true _ _ e)) k
     by_marks false e k = absurd cc
 
-row_bounded : (state next : BlifState) (words : List (List ℕ)) → IsBounded state → (unended : Option OpenEquation) → state.unended ≡ unended → row_read_by state unended words ≡ Ok next → IsBounded next
+row_bounded : (state next : BlifState) (words : List (List ℕ)) → IsBounded state → (unended : Option OpenEquation) → state.unended ≡ unended
+    → row_read_by state unended words ≡ Ok next → IsBounded next
 row_bounded state next words bounded None is h = absurd cc
 row_bounded state next words bounded (Some unended) is h = marks_bounded state next unended _ bounded is h
 

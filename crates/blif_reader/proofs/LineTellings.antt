@@ -1,32 +1,26 @@
 -- What each logical line adds.
-use Rattle.std.proofs.Common.{◌≡◌, ℕ, Bool, true, false, not, ◌||◌, ◌&&◌, ◌==◌, cond, List, [], ◌∷◌, ◌++◌, length, map, Option, Some, None, Result, Ok, Err, codes, refl, sym, ap, subst, ◌∙◌, append_assoc}
-use Rattle.std.specs.Prelude.{⊤, slice_index, unwrap_or}
-use Rattle.std.specs.Bool.{beq}
+use Rattle.std.proofs.Common.{◌≡◌, ℕ, Bool, true, false, ◌||◌, cond, List, [], ◌∷◌, ◌++◌, length, map, Option, Some, None, Result, Ok, Err, codes, refl, sym, ap, subst, ◌∙◌}
+use Rattle.std.specs.Prelude.{⊤}
 use Rattle.std.specs.Str.{bytes_eq}
-use Rattle.std.proofs.lemmas.Bool.{eqb-true}
 use Rattle.std.proofs.lemmas.List.{append-nil}
 use Rattle.std.proofs.lemmas.List.Elements.{All-nil}
 use Rattle.std.proofs.lemmas.Slice.Eq.{bytes_eq-Decides}
 use Rattle.pulse_ids.specs.declared.quantities.Quantity.TheVariants as quantities
-use Rattle.word_scan.specs.Logical.{dark_words, has_strange}
-use Rattle.word_scan.specs.Reading.{read_on}
 use Rattle.source_machine.specs.declared.unset.Unset.{Unset}
 use Rattle.source_machine.specs.Machines.{PlainMachine, PlainEquation, PlainLiteral}
 use Rattle.blif_reader.specs.declared.refusals.LineRefusal.{LineRefusal}
 use Rattle.blif_reader.specs.declared.refusals.LineRefusal.TheVariants as line_refusals
 use Rattle.blif_reader.specs.declared.refusals.BlifCause.TheVariants as causes
 use Rattle.blif_reader.specs.Names.{names_with, number_for}
-use Rattle.blif_reader.specs.Rows.{row_words, are_marks, bit_of, literals_of, cares_in}
-use Rattle.blif_reader.specs.States.{BlifState, OpenEquation, closed, with_open, with_column, begun_equation}
-use Rattle.blif_reader.specs.Statements.{model_read, input_read, output_read, column_read, names_read, end_read, is_passed_over, statement_read, bit_added, with_row, has_rows, row_added, row_read_by, words_read, text_line_read}
-use Rattle.blif_reader.specs.Latches.{clock_read, latch_words_read}
-use Rattle.blif_reader.specs.Refusing.{over}
-use Rattle.blif_reader.specs.Tellings.{net_of, words_after, input_words, output_words, equation_words, latch_words, clock_words, names_in, clocks_in, ends_of, control_in, last_or, front_of, first_word, rows_under, bit_told, RowsEndIn, RowsAgree, cube_told, equation_told, equations_told, has_words}
+use Rattle.blif_reader.specs.Rows.{bit_of}
+use Rattle.blif_reader.specs.States.{BlifState, OpenEquation, closed, with_open, begun_equation}
+use Rattle.blif_reader.specs.Statements.{model_read, column_read, names_read, end_read, is_passed_over, statement_read, has_rows}
+use Rattle.blif_reader.specs.Tellings.{net_of, equation_words, last_or, rows_under, bit_told, RowsEndIn, RowsAgree, cube_told, equation_told, equations_told, has_words}
 use Rattle.blif_reader.proofs.Inversions.{allowed, over_ok}
 use Rattle.blif_reader.proofs.LineBounds.{goes_by}
-use Rattle.blif_reader.proofs.FirstNames.{joined, Extends, extends_same, extends_on, extends_joined, net_kept}
-use Rattle.blif_reader.proofs.Sayings.{Said, nothing_said, said_in, Tells, tells_on, tells_nothing, after_closing}
-use Rattle.blif_reader.proofs.WordTellings.{Keeps, says_input, says_output, says_columns, says_clock, inputs_tell, outputs_tell, clocks_tell, Column, column_tells, Columns, columns_tell, grown}
+use Rattle.blif_reader.proofs.FirstNames.{Extends, extends_same, extends_on, extends_joined, net_kept}
+use Rattle.blif_reader.proofs.Sayings.{Said, nothing_said, said_in, Tells, tells_on, tells_nothing}
+use Rattle.blif_reader.proofs.WordTellings.{Keeps, says_input, says_output, says_columns, says_clock, inputs_tell, outputs_tell, clocks_tell, column_tells, columns_tell, grown}
 use Rattle.blif_reader.proofs.LatchTellings.{says_latch, latch_tells}
 
 -- the open equation with further rows
@@ -109,7 +103,8 @@ module _ (unset : Unset) (state : BlifState) where
     agrees = λ rows h. subst (λ (l : List (List ℕ)). RowsAgree l rows) (sym none) tt;
   }
 
-  modelled_tells : (next : BlifState) (words : List (List ℕ)) → ◌≡◌ {A = Result BlifState LineRefusal} (Ok (record (closed state) { modelled = true })) (Ok next) → DotTells unset state next (codes ".model" ∷ words)
+  modelled_tells : (next : BlifState) (words : List (List ℕ)) → ◌≡◌ {A = Result BlifState LineRefusal} (Ok (record (closed state) { modelled = true })) (Ok next)
+      → DotTells unset state next (codes ".model" ∷ words)
   modelled_tells next words h =
       let new : BlifState = record (closed state) { modelled = true } in
       let is : new ≡ next = cc in
@@ -128,7 +123,8 @@ module _ (unset : Unset) (state : BlifState) where
 
   module _ (begun : state.modelled ≡ true) where
     -- a statement whose words are read one after the other
-    by_words : (next : BlifState) (line : List (List ℕ)) (says : Said) → equation_words line ≡ [] → says ≡ said_in unset line → Tells (closed state) next says × Keeps (closed state) next → DotTells unset state next line
+    by_words : (next : BlifState) (line : List (List ℕ)) (says : Said) → equation_words line ≡ [] → says ≡ said_in unset line → Tells (closed state) next says
+        × Keeps (closed state) next → DotTells unset state next line
     by_words next line says none e t =
         kept_tells next line none (subst (λ (d : Said). Tells (closed state) next d) e t.0) t.1.equations t.1.unended (t.1.modelled ∙ begun)
 
@@ -151,7 +147,8 @@ module _ (unset : Unset) (state : BlifState) where
         let grows : Extends (names_with state.nets name) next.nets = subst (λ (l : List (List ℕ)). Extends l next.nets) one.nets
         (subst (λ (l : List (List ℕ)). Extends middle.nets l) (sym more.tells.nets) (extends_joined middle.nets names)) in
         record {
-          tells = subst (λ (d : Said). Tells (closed state) next d) (columns_said unset (name ∷ names)) (tells_on (closed state) middle next (says_columns (name ∷ [])) (says_columns names) one.tells more.tells);
+          tells = subst (λ (d : Said). Tells (closed state) next d) (columns_said unset (name ∷ names))
+              (tells_on (closed state) middle next (says_columns (name ∷ [])) (says_columns names) one.tells more.tells);
           equations = λ big x rows.
               ap (λ (l : List PlainEquation). l ++ open_told next.unended rows) (more.equations ∙ one.equations)
               ∙ ap (λ (o : Option OpenEquation). (closed state).machine.equations ++ open_told o rows) (more.opened big x)
@@ -161,13 +158,15 @@ module _ (unset : Unset) (state : BlifState) where
           agrees = λ rows h. (subst (λ (o : Option OpenEquation). OpenAgrees o rows) (more.opened next.nets (extends_same next.nets)) h).0;
         })
 
-  same_tells : (next : BlifState) (line : List (List ℕ)) → state.modelled ≡ true → nothing_said ≡ said_in unset line → equation_words line ≡ [] → ◌≡◌ {A = Result BlifState LineRefusal} (Ok (closed state)) (Ok next) → DotTells unset state next line
+  same_tells : (next : BlifState) (line : List (List ℕ)) → state.modelled ≡ true → nothing_said ≡ said_in unset line → equation_words line ≡ []
+      → ◌≡◌ {A = Result BlifState LineRefusal} (Ok (closed state)) (Ok next) → DotTells unset state next line
   same_tells next line begun none equation h =
       let is : closed state ≡ next = cc in
       subst (λ (s : BlifState). DotTells unset state s line) is
       (kept_tells (closed state) line equation (subst (λ (d : Said). Tells (closed state) (closed state) d) none (tells_nothing (closed state) (closed state) refl refl refl refl)) refl refl begun)
 
-  on_keyword : (next : BlifState) (first keyword : List ℕ) (words : List (List ℕ)) → bytes_eq first keyword ≡ true → DotTells unset state next (keyword ∷ words) → DotTells unset state next (first ∷ words)
+  on_keyword : (next : BlifState) (first keyword : List ℕ) (words : List (List ℕ)) → bytes_eq first keyword ≡ true → DotTells unset state next (keyword ∷ words)
+      → DotTells unset state next (first ∷ words)
   on_keyword next first keyword words is t = subst (λ (k : List ℕ). DotTells unset state next (k ∷ words)) (sym (is_keyword first keyword is)) t
 
   pub statement_tells : (next : BlifState) (first : List ℕ) (words : List (List ℕ)) → (bytes_eq first (codes ".model") ≡ false → state.modelled ≡ true)
@@ -186,4 +185,5 @@ module _ (unset : Unset) (state : BlifState) where
       either_known Q (bytes_eq first (codes ".latch")) _ _ next h (λ e k. on_keyword next first (codes ".latch") words e
       (by_words b next (codes ".latch" ∷ words) (says_latch unset words) refl refl (latch_tells unset words (closed state) next k))) (λ latch h.
       either_known Q (bytes_eq first (codes ".end")) _ _ next h (λ e k. on_keyword next first (codes ".end") words e (ended_tells b next words k)) (λ end h.
-      either_known Q (is_passed_over first) _ _ next h (λ e k. same_tells next (first ∷ words) b (unsaid unset first words inputs outputs names latch clock) (rw names refl) k) (λ e k. absurd cc))))))))
+      either_known Q (is_passed_over first) _ _ next h (λ e k. same_tells next (first ∷ words) b (unsaid unset first words inputs outputs names latch clock) (rw names refl) k)
+      (λ e k. absurd cc))))))))

@@ -1,5 +1,5 @@
 -- Marks read from the left.
-use Rattle.std.proofs.Common.{◌≡◌, ℕ, zero, suc, ◌+◌, ◌<◌, ◌≤◌, ◌==◌, ◌||◌, cond, Bool, true, false, List, [], ◌∷◌, ◌++◌, length, map, get_or, take, drop, refl, sym, ap, subst, ◌∙◌, arith}
+use Rattle.std.proofs.Common.{◌≡◌, ℕ, zero, suc, ◌+◌, ◌<◌, ◌≤◌, ◌==◌, ◌||◌, cond, Bool, true, false, List, [], ◌∷◌, length, map, get_or, drop, refl, ap, ◌∙◌, arith}
 use Rattle.pulse_ids.specs.Ids.{NetId}
 use Rattle.source_machine.specs.Machines.{PlainLiteral}
 use Rattle.blif_reader.specs.Rows.{is_care, cares_in, marked, literals_of}
@@ -9,7 +9,8 @@ pub cares_step : (marks : List ℕ) (place m : ℕ) → place < length marks
     → cares_in (drop place marks) ≡ cond (is_care (get_or marks place m)) 1 0 + cares_in (drop (place + 1) marks)
 cares_step [] place m lt = absurd (omega arith)
 cares_step (mark ∷ marks) zero m lt = refl
-cares_step (mark ∷ marks) (suc place) m lt = cares_step marks place m (omega arith) ∙ ap (λ k. cond (is_care (get_or marks place m)) 1 0 + cares_in (drop k (mark ∷ marks))) (let e : suc (place + 1) ≡ suc place + 1 = omega arith in e)
+cares_step (mark ∷ marks) (suc place) m lt = cares_step marks place m (omega arith)
+    ∙ ap (λ k. cond (is_care (get_or marks place m)) 1 0 + cares_in (drop k (mark ∷ marks))) (let e : suc (place + 1) ≡ suc place + 1 = omega arith in e)
 
 pub cares_all : (marks : List ℕ) → cares_in (drop (length marks) marks) ≡ 0
 cares_all [] = refl

@@ -1,5 +1,5 @@
 -- Numbers of names.
-use Rattle.std.proofs.Common.{◌≡◌, ℕ, zero, suc, ◌+◌, ◌<◌, ◌≤◌, cond, Bool, true, false, List, [], ◌∷◌, ◌++◌, All, get_or, length, Option, Some, None, refl, sym, ap, ◌∙◌, arith}
+use Rattle.std.proofs.Common.{◌≡◌, ℕ, suc, ◌+◌, ◌<◌, ◌≤◌, cond, Bool, true, false, List, [], ◌∷◌, length, Option, Some, None, sym, arith}
 use Rattle.std.specs.Prelude.{IfSome, ◌^◌}
 use Rattle.std.specs.Str.{bytes_eq}
 use Rattle.blif_reader.specs.Names.{number_from, number_in}

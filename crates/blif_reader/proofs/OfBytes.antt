@@ -1,5 +1,5 @@
 -- No judgement of a source is want of memory.
-use Rattle.std.proofs.Common.{◌≡◌, ℕ, ◌+◌, Bool, true, false, not, ◌||◌, ◌&&◌, ◌==◌, cond, ltb, List, [], ◌∷◌, length, take, Option, Some, None, Result, Ok, Err, codes, refl, subst}
+use Rattle.std.proofs.Common.{◌≡◌, ℕ, ◌+◌, Bool, true, false, not, ◌||◌, ◌&&◌, ◌==◌, cond, ltb, List, [], ◌∷◌, length, take, Option, Some, None, Result, Ok, Err, codes, subst}
 use Rattle.std.specs.Prelude.{⊤, slice_index, unwrap_or}
 use Rattle.std.specs.Option.{option_or, is_some}
 use Rattle.std.specs.Bool.{beq}
@@ -10,7 +10,6 @@ use Rattle.pulse_ids.specs.declared.quantities.Quantity.TheVariants as quantitie
 use Rattle.word_scan.specs.Logical.{LogicalLine, dark_words, has_strange}
 use Rattle.word_scan.specs.Reading.{read_on, unless_refused}
 use Rattle.source_machine.specs.declared.unset.Unset.{Unset}
-use Rattle.source_machine.specs.declared.places.Place.TheVariants.{Whole}
 use Rattle.blif_reader.specs.declared.refusals.BlifCause.{BlifCause}
 use Rattle.blif_reader.specs.declared.refusals.BlifRefusal.{BlifRefusal}
 use Rattle.blif_reader.specs.declared.refusals.BlifRefusal.TheVariants as refusals
@@ -19,10 +18,10 @@ use Rattle.blif_reader.specs.declared.refusals.LineRefusal.TheVariants as line_r
 use Rattle.blif_reader.specs.Names.{number_in}
 use Rattle.blif_reader.specs.Rows.{cares_in, row_words, are_marks, bit_of}
 use Rattle.blif_reader.specs.States.{BlifState, OpenEquation, nothing_read, closed}
-use Rattle.blif_reader.specs.Refusing.{after, over, unless_long}
+use Rattle.blif_reader.specs.Refusing.{after, over}
 use Rattle.blif_reader.specs.Latches.{net_read, edge_of, first_state, is_mixed, with_type, state_given, latch_added, latch_read, untyped_read, typed_read, latch_words_read, differs_in_clock, clock_read}
 use Rattle.blif_reader.specs.Statements.{model_read, input_read, output_read, column_read, names_read, end_read, is_passed_over, statement_read, has_rows, with_row, bit_added, row_added, row_read_by, words_read, text_line_read}
-use Rattle.blif_reader.specs.Sources.{PlainSource, refusal_at, shown_as, line_read, lines_read, logical_lines, text_read, limit, early, all_logical_lines, clock_cause, source_of, unless_clocked, whole_source, source_read, judgement, refusal_of}
+use Rattle.blif_reader.specs.Sources.{PlainSource, shown_as, line_read, lines_read, logical_lines, text_read, limit, all_logical_lines, clock_cause, source_of, unless_clocked, source_read, judgement, refusal_of}
 use Rattle.blif_reader.specs.Laws.{IsOfBytes}
 
 -- a line's refusal is one of its bytes
@@ -52,7 +51,8 @@ input_right state name =
 
 output_right : (state : BlifState) (name : List ℕ) → Right (output_read state name)
 output_right state name =
-    over_right quantities.NameBytes (length name) _ (after_right (net_read state.nets name) _ (net_right state.nets name) (λ nets. over_right quantities.Outputs (length state.machine.outputs + 1) _ tt))
+    over_right quantities.NameBytes (length name) _ (after_right (net_read state.nets name) _ (net_right state.nets name)
+    (λ nets. over_right quantities.Outputs (length state.machine.outputs + 1) _ tt))
 
 column_right : (state : BlifState) (name : List ℕ) → Right (column_read state name)
 column_right state name = over_right quantities.NameBytes (length name) _ (after_right (net_read state.nets name) _ (net_right state.nets name) (λ nets. tt))
@@ -137,7 +137,8 @@ statement_right unset state first words =
 bit_right : (state : BlifState) (unended : OpenEquation) (marks : List ℕ) (bit : Option Bool) → Right (bit_added state unended marks bit)
 bit_right state unended marks None = tt
 bit_right state unended marks (Some bit) =
-    if_right (has_rows unended.equation.cubes && not (beq unended.equation.on bit)) _ _ tt (over_right quantities.Size (state.size + (1 + cares_in marks)) (Ok (record state { size = state.size + (1 + cares_in marks); unended = Some (with_row unended bit marks) })) tt)
+    if_right (has_rows unended.equation.cubes && not (beq unended.equation.on bit)) _ _ tt
+    (over_right quantities.Size (state.size + (1 + cares_in marks)) (Ok (record state { size = state.size + (1 + cares_in marks); unended = Some (with_row unended bit marks) })) tt)
 
 added_row_right : (state : BlifState) (unended : OpenEquation) (words : Option (List ℕ × List ℕ)) → Right (row_added state unended words)
 added_row_right state unended None = tt

@@ -1,5 +1,5 @@
 -- What a row adds, and any line.
-use Rattle.std.proofs.Common.{◌≡◌, ℕ, ◌+◌, Bool, true, false, not, ◌||◌, ◌&&◌, ◌==◌, cond, List, [], ◌∷◌, ◌++◌, length, map, Option, Some, None, Result, Ok, Err, codes, refl, sym, ap, subst, ◌∙◌, append_assoc, arith}
+use Rattle.std.proofs.Common.{◌≡◌, ℕ, ◌+◌, Bool, true, false, not, ◌&&◌, ◌==◌, cond, List, [], ◌∷◌, ◌++◌, length, map, Option, Some, None, Ok, Err, codes, refl, sym, ap, subst, ◌∙◌, append_assoc, arith}
 use Rattle.std.specs.Prelude.{slice_index, unwrap_or}
 use Rattle.std.specs.Bool.{beq}
 use Rattle.std.specs.Str.{bytes_eq}
@@ -12,16 +12,14 @@ use Rattle.pulse_ids.specs.declared.quantities.Quantity.TheVariants as quantitie
 use Rattle.word_scan.specs.Logical.{dark_words, has_strange}
 use Rattle.source_machine.specs.declared.unset.Unset.{Unset}
 use Rattle.source_machine.specs.Machines.{PlainEquation, PlainLiteral}
-use Rattle.blif_reader.specs.declared.refusals.LineRefusal.{LineRefusal}
 use Rattle.blif_reader.specs.declared.refusals.LineRefusal.TheVariants as line_refusals
 use Rattle.blif_reader.specs.declared.refusals.BlifCause.TheVariants as causes
 use Rattle.blif_reader.specs.Rows.{row_words, are_marks, bit_of, literals_of, cares_in}
 use Rattle.blif_reader.specs.States.{BlifState, OpenEquation, closed}
-use Rattle.blif_reader.specs.Statements.{statement_read, bit_added, with_row, has_rows, row_added, row_read_by, words_read, text_line_read}
+use Rattle.blif_reader.specs.Statements.{bit_added, with_row, has_rows, row_added, row_read_by, words_read, text_line_read}
 use Rattle.blif_reader.specs.Refusing.{over}
-use Rattle.blif_reader.specs.Tellings.{equation_words, last_or, rows_under, bit_told, RowsAgree, cube_told, equation_told, equations_told, has_words}
+use Rattle.blif_reader.specs.Tellings.{equation_words, last_or, rows_under, bit_told, RowsAgree, cube_told, equation_told, equations_told}
 use Rattle.blif_reader.proofs.Inversions.{allowed, over_ok}
-use Rattle.blif_reader.proofs.FirstNames.{Extends}
 use Rattle.blif_reader.proofs.Sayings.{Said, nothing_said, said_in, Tells, tells_nothing, after_closing}
 use Rattle.blif_reader.proofs.LineTellings.{open_told, OpenAgrees, none_agree, closed_equations, LineTells, DotTells, either_known, unsaid, statement_tells}
 
@@ -54,7 +52,8 @@ module _ (unset : Unset) (state next : BlifState) (first : List ℕ) (words : Li
   abbrev row : List (List ℕ)
   row = first ∷ words
 
-  module _ (unended : OpenEquation) (is : state.unended ≡ Some unended) (marks bit_word : List ℕ) (cube : literals_of unended.columns marks ≡ cube_told unended.columns row) (last : last_or [] row ≡ bit_word) where
+  module _ (unended : OpenEquation) (is : state.unended ≡ Some unended) (marks bit_word : List ℕ) (cube : literals_of unended.columns marks ≡ cube_told unended.columns row)
+      (last : last_or [] row ≡ bit_word) where
     grows : (bit : Bool) → bit_of bit_word ≡ Some bit → (rows : List (List (List ℕ))) → open_told (Some (with_row unended bit marks)) rows ≡ open_told (Some unended) (row ∷ rows)
     grows bit e rows =
         let made : Bool → List (List PlainLiteral) → List PlainEquation = λ on cubes. (record { net = unended.equation.net; on = on; cubes = cubes }) ∷ [] in
@@ -89,14 +88,16 @@ module _ (unset : Unset) (state next : BlifState) (first : List ℕ) (words : Li
         let same : new ≡ next = let k = size.1 in cc in
         let names : bytes_eq first (codes ".names") ≡ false = not_keyword first (codes ".names") plain refl in
         let nothing : nothing_said ≡ said_in unset row =
-        unsaid unset first words (not_keyword first (codes ".inputs") plain refl) (not_keyword first (codes ".outputs") plain refl) names (not_keyword first (codes ".latch") plain refl) (not_keyword first (codes ".clock") plain refl) in
+        unsaid unset first words (not_keyword first (codes ".inputs") plain refl) (not_keyword first (codes ".outputs") plain refl) names
+        (not_keyword first (codes ".latch") plain refl) (not_keyword first (codes ".clock") plain refl) in
         subst (λ (s : BlifState). LineTells unset state s row) same (record {
           tells = subst (λ (d : Said). Tells state new d) nothing (tells_nothing state new refl refl refl refl);
           equations = λ big x lines.
               ap (λ (l : List PlainEquation). state.machine.equations ++ (l ++ equations_told big lines)) (grows bit e (rows_under lines))
               ∙ ap (λ b. state.machine.equations ++ (open_told (Some unended) (cond b [] (row ∷ rows_under lines)) ++ equations_told big lines)) (sym plain)
               ∙ ap (λ (o : Option OpenEquation). state.machine.equations ++ (open_told o (rows_under (row ∷ lines)) ++ equations_told big lines)) (sym is)
-              ∙ ap (λ b. state.machine.equations ++ (open_told state.unended (rows_under (row ∷ lines)) ++ (equation_told big (cond b words []) (rows_under lines) ++ equations_told big lines))) (sym names);
+              ∙ ap (λ b. state.machine.equations ++ (open_told state.unended (rows_under (row ∷ lines)) ++ (equation_told big (cond b words []) (rows_under lines) ++ equations_told big lines)))
+              (sym names);
           modelled = begun ∙ sym (or-true state.modelled);
           agrees = λ lines h. (
             subst (λ (o : Option OpenEquation). OpenAgrees o (rows_under (row ∷ lines))) (sym is)
@@ -124,7 +125,8 @@ module _ (unset : Unset) (state next : BlifState) (first : List ℕ) (words : Li
   row_tells (Some unended) is h = row_by unended is (length unended.columns == 0) refl words refl h
 
 -- a line that begins with a dot
-dot_tells : (unset : Unset) (state next : BlifState) (first : List ℕ) (words : List (List ℕ)) → (slice_index first 0 == 46) ≡ true → DotTells unset state next (first ∷ words) → LineTells unset state next (first ∷ words)
+dot_tells : (unset : Unset) (state next : BlifState) (first : List ℕ) (words : List (List ℕ)) → (slice_index first 0 == 46) ≡ true
+    → DotTells unset state next (first ∷ words) → LineTells unset state next (first ∷ words)
 dot_tells unset state next first words dot t = record {
   tells = after_closing state next (said_in unset (first ∷ words)) t.tells;
   equations = λ big x lines.

@@ -5,7 +5,7 @@ use Rattle.std.specs.Option.{option_or}
 use Rattle.std.proofs.lemmas.List.{append-nil, map-append}
 use Rattle.std.proofs.Math.Bool.{or-false}
 use Rattle.source_machine.specs.declared.unset.Unset.{Unset}
-use Rattle.source_machine.specs.Machines.{PlainMachine, PlainLiteral, PlainLatch}
+use Rattle.source_machine.specs.Machines.{PlainMachine, PlainLatch}
 use Rattle.blif_reader.specs.States.{BlifState, OpenEquation, closed, with_open}
 use Rattle.blif_reader.specs.Tellings.{net_of, literal_told, latch_told, first_of, has_words, names_in, input_words, output_words, latch_words, clocks_in, clock_words}
 use Rattle.blif_reader.proofs.FirstNames.{joined, joined_on, Extends, extends_on, extends_joined}
@@ -93,11 +93,14 @@ tells_on state middle next a b s t =
     let more : Extends middle.nets next.nets = subst (λ (l : List (List ℕ)). Extends middle.nets l) (sym t.nets) (extends_joined middle.nets b.names) in
     record {
       nets = t.nets ∙ ap (λ (l : List (List ℕ)). joined l b.names) s.nets ∙ sym (joined_on state.nets a.names b.names);
-      inputs = λ big x. joins (net_of big) state.machine.inputs middle.machine.inputs next.machine.inputs a.inputs b.inputs (s.inputs big (extends_on middle.nets next.nets big more x)) (t.inputs big x);
+      inputs = λ big x. joins (net_of big) state.machine.inputs middle.machine.inputs next.machine.inputs a.inputs b.inputs
+          (s.inputs big (extends_on middle.nets next.nets big more x)) (t.inputs big x);
       input_names = joins named state.machine.input_names middle.machine.input_names next.machine.input_names a.inputs b.inputs s.input_names t.input_names;
-      outputs = λ big x. joins (literal_told big) state.machine.outputs middle.machine.outputs next.machine.outputs a.outputs b.outputs (s.outputs big (extends_on middle.nets next.nets big more x)) (t.outputs big x);
+      outputs = λ big x. joins (literal_told big) state.machine.outputs middle.machine.outputs next.machine.outputs a.outputs b.outputs
+          (s.outputs big (extends_on middle.nets next.nets big more x)) (t.outputs big x);
       output_names = joins named state.machine.output_names middle.machine.output_names next.machine.output_names a.outputs b.outputs s.output_names t.output_names;
-      latches = λ big x. latches_join state.machine.latches middle.machine.latches next.machine.latches (a.latches big) (b.latches big) (s.latches big (extends_on middle.nets next.nets big more x)) (t.latches big x);
+      latches = λ big x. latches_join state.machine.latches middle.machine.latches next.machine.latches (a.latches big) (b.latches big)
+          (s.latches big (extends_on middle.nets next.nets big more x)) (t.latches big x);
       clock = t.clock ∙ ap (λ (o : Option (List ℕ)). option_or o (first_of b.clocks)) s.clock ∙ first_or state.clock a.clocks b.clocks;
       clocked = t.clocked ∙ ap (λ c. c || has_words b.declared) s.clocked ∙ words_or state.clocked a.declared b.declared;
     }

@@ -1,5 +1,5 @@
 -- What all logical lines tell.
-use Rattle.std.proofs.Common.{◌≡◌, ℕ, Bool, true, false, ◌||◌, cond, ltb, List, [], ◌∷◌, ◌++◌, length, map, Option, Some, None, Result, Ok, Err, refl, sym, ap, subst, ◌∙◌}
+use Rattle.std.proofs.Common.{◌≡◌, ℕ, Bool, true, false, ◌||◌, cond, ltb, List, [], ◌∷◌, ◌++◌, length, Option, Some, None, Result, Ok, Err, refl, sym, ap, subst, ◌∙◌}
 use Rattle.std.specs.Prelude.{unwrap_or}
 use Rattle.std.specs.List.{flat_map, list_any}
 use Rattle.std.proofs.Math.Bool.{or-false, or_assoc}
@@ -17,13 +17,13 @@ use Rattle.pulse_ids.specs.declared.quantities.Quantity.TheVariants as quantitie
 use Rattle.source_machine.specs.declared.places.Place.TheVariants.{Whole}
 use Rattle.blif_reader.specs.States.{BlifState, OpenEquation, nothing_read, closed, with_open}
 use Rattle.blif_reader.specs.Statements.{text_line_read}
-use Rattle.blif_reader.specs.Sources.{PlainSource, source_of, shown_as, refusal_at, line_read, unless_refused, lines_read, all_logical_lines, limit, fault_at, clock_cause, unless_clocked, source_read, early, judgement}
-use Rattle.blif_reader.specs.Tellings.{net_of, literal_told, latch_told, latch_words, names_in, input_words, output_words, clocks_in, clock_words, nets_told, rows_under, equations_told, has_words, AllRowsAgree, clock_told, machine_told, source_told, words_of}
+use Rattle.blif_reader.specs.Sources.{PlainSource, source_of, shown_as, refusal_at, line_read, lines_read, all_logical_lines, limit, fault_at, clock_cause, unless_clocked, source_read, early, judgement}
+use Rattle.blif_reader.specs.Tellings.{names_in, nets_told, rows_under, equations_told, has_words, AllRowsAgree, machine_told, source_told, words_of}
 use Rattle.blif_reader.specs.Laws.{IsTold, FirstRefused}
 use Rattle.blif_reader.proofs.Taking.{read_refused}
 use Rattle.blif_reader.proofs.FirstNames.{joined_firsts, Extends, extends_on, extends_joined}
 use Rattle.blif_reader.proofs.Sayings.{said_in, said_by, Tells, tells_on, tells_nothing}
-use Rattle.blif_reader.proofs.LineTellings.{open_told, OpenAgrees, none_agree, closed_equations, LineTells}
+use Rattle.blif_reader.proofs.LineTellings.{open_told, OpenAgrees, none_agree, closed_equations}
 use Rattle.blif_reader.proofs.RowTellings.{line_tells}
 
 abbrev made : ℕ → List ℕ → List PlainLatch → List PlainEquation → List PlainLiteral → List (Option (List ℕ)) → List (Option (List ℕ)) → PlainMachine
@@ -109,7 +109,8 @@ module _ (unset : Unset) where
       }
 
   refused_by : (refusal : BlifRefusal) (lines : List LogicalLine) (line : LogicalLine) (state : BlifState) (read : Result BlifState BlifRefusal) → line_read unset state line ≡ read
-      → lines_read unset read lines ≡ Err refusal → ((next : BlifState) → lines_read unset (Ok next) lines ≡ Err refusal → FirstRefused unset next lines refusal) → FirstRefused unset state (line ∷ lines) refusal
+      → lines_read unset read lines ≡ Err refusal → ((next : BlifState) → lines_read unset (Ok next) lines ≡ Err refusal → FirstRefused unset next lines refusal)
+      → FirstRefused unset state (line ∷ lines) refusal
   refused_by refusal lines line state (Err other) e h f =
       let same : other ≡ refusal = let k : ◌≡◌ {A = Result BlifState BlifRefusal} (Err other) (Err refusal) = sym (read_refused unset other lines) ∙ h in cc in
       record { before = []; line = line; after = lines; state = state; lines_are = refl; reads = refl; refuses = e ∙ ap (λ (r : BlifRefusal). Err r) same }
@@ -140,7 +141,8 @@ module _ (unset : Unset) where
   whole_by true state source h = clocked_by (clock_cause (closed state) state.clock) (source_of (closed state)) source h
   whole_by false state source h = absurd cc
 
-  read_by : (lines : List LogicalLine) (source : PlainSource) (read : Result BlifState BlifRefusal) → lines_read unset (Ok nothing_read) lines ≡ read → source_read read ≡ Ok source → source ≡ source_told unset (words_of lines)
+  read_by : (lines : List LogicalLine) (source : PlainSource) (read : Result BlifState BlifRefusal) → lines_read unset (Ok nothing_read) lines ≡ read
+      → source_read read ≡ Ok source → source ≡ source_told unset (words_of lines)
   read_by lines source (Ok state) e h = sym (whole_by state.modelled state source h) ∙ (lines_told lines state e).source
   read_by lines source (Err refusal) e h = absurd cc
 

@@ -1,9 +1,8 @@
 -- Where a net stands in a machine, and in the plain one.
-use Rattle.std.proofs.Common.{◌≡◌, ◌==◌, ◌||◌, ℕ, Bool, List, [], ◌∷◌, map, refl, sym, ap, ◌∙◌}
+use Rattle.std.proofs.Common.{◌≡◌, ◌==◌, ◌||◌, ℕ, Bool, List, [], ◌∷◌, map, refl, ap, ◌∙◌}
 use Rattle.std.specs.List.{list_any}
-use Rattle.pulse_ids.specs.Ids.{Lit, NetId}
+use Rattle.pulse_ids.specs.Ids.{Lit}
 use Rattle.source_machine.specs.declared.machines.Equation.{Equation}
-use Rattle.source_machine.specs.declared.machines.Latch.{Latch}
 use Rattle.source_machine.specs.declared.machines.RawMachine.{RawMachine}
 use Rattle.source_machine.specs.Machines.{literal_of, latch_of, equation_of, machine_of}
 use Rattle.blif_reader.specs.Sources.{in_cube, in_rows, is_read, is_made, is_input}

@@ -1,22 +1,22 @@
 -- What each word of a line adds.
-use Rattle.std.proofs.Common.{◌≡◌, ℕ, ◌+◌, Bool, true, false, ◌||◌, cond, List, [], ◌∷◌, ◌++◌, length, map, Option, Some, None, Result, Ok, Err, refl, sym, ap, subst, ◌∙◌, append_assoc}
+use Rattle.std.proofs.Common.{◌≡◌, ℕ, ◌+◌, Bool, true, false, cond, List, [], ◌∷◌, ◌++◌, length, map, Option, Some, Result, Ok, Err, refl, sym, ap, subst, ◌∙◌, append_assoc}
 use Rattle.std.specs.Option.{option_or, is_some}
 use Rattle.std.proofs.lemmas.List.{append-nil}
 use Rattle.std.proofs.Math.Bool.{or-true, or-false}
 use Rattle.pulse_ids.specs.declared.quantities.Quantity.{Quantity}
 use Rattle.pulse_ids.specs.declared.quantities.Quantity.TheVariants as quantities
 use Rattle.word_scan.specs.Reading.{read_on}
-use Rattle.source_machine.specs.Machines.{PlainLiteral, PlainEquation}
+use Rattle.source_machine.specs.Machines.{PlainLiteral}
 use Rattle.source_machine.specs.Additions.{with_input, with_output}
 use Rattle.blif_reader.specs.declared.refusals.LineRefusal.{LineRefusal}
 use Rattle.blif_reader.specs.declared.refusals.LineRefusal.TheVariants as line_refusals
 use Rattle.blif_reader.specs.declared.refusals.BlifCause.TheVariants as causes
 use Rattle.blif_reader.specs.Names.{number_in, names_with, number_for}
-use Rattle.blif_reader.specs.States.{BlifState, OpenEquation, with_column, begun_equation}
+use Rattle.blif_reader.specs.States.{BlifState, OpenEquation, with_column}
 use Rattle.blif_reader.specs.Latches.{net_read, clock_read, differs_in_clock}
 use Rattle.blif_reader.specs.Statements.{input_read, output_read, column_read}
 use Rattle.blif_reader.specs.Refusing.{over}
-use Rattle.blif_reader.specs.Tellings.{net_of, literal_told, last_or, front_of}
+use Rattle.blif_reader.specs.Tellings.{net_of, last_or, front_of}
 use Rattle.blif_reader.proofs.Inversions.{allowed, over_ok, after_ok}
 use Rattle.blif_reader.proofs.LineBounds.{goes_by}
 use Rattle.blif_reader.proofs.FirstNames.{Extends, extends_on, extends_joined, net_kept}
@@ -31,7 +31,8 @@ pub record Keeps (state next : BlifState) : Type 0 where
 pub keeps_on : (state middle next : BlifState) → Keeps state middle → Keeps middle next → Keeps state next
 keeps_on state middle next a b = record { equations = b.equations ∙ a.equations; unended = b.unended ∙ a.unended; modelled = b.modelled ∙ a.modelled }
 
-named_by : (there : Bool) (nets more new : List (List ℕ)) (quantity : Quantity) (count : ℕ) → cond there (Ok nets) (over quantity count (Ok (cond there nets more))) ≡ Ok new → new ≡ cond there nets more
+named_by : (there : Bool) (nets more new : List (List ℕ)) (quantity : Quantity) (count : ℕ) → cond there (Ok nets) (over quantity count (Ok (cond there nets more))) ≡ Ok new
+    → new ≡ cond there nets more
 named_by true nets more new quantity count h = cc
 named_by false nets more new quantity count h = let k = (over_ok quantity count (Ok more) new h).1 in cc
 
@@ -185,7 +186,8 @@ pub record Columns (state next : BlifState) (unended : OpenEquation) (names : Li
   pub modelled : next.modelled ≡ state.modelled
   pub opened : (big : List (List ℕ)) → Extends next.nets big → next.unended ≡ Some (grown unended (map (net_of big) names))
 
-pub columns_tell : (names : List (List ℕ)) (state next : BlifState) (unended : OpenEquation) → state.unended ≡ Some unended → read_on column_read (Ok state) names ≡ Ok next → Columns state next unended names
+pub columns_tell : (names : List (List ℕ)) (state next : BlifState) (unended : OpenEquation) → state.unended ≡ Some unended → read_on column_read (Ok state) names ≡ Ok next
+    → Columns state next unended names
 columns_tell [] state next unended e h =
     let is : state ≡ next = cc in
     subst (λ (s : BlifState). Columns state s unended []) is (record {

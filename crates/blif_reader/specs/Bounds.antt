@@ -1,9 +1,8 @@
 -- How great the numbers of a state are.
-use Rattle.std.specs.Prelude.{◌≡◌, ⊤, ◌≤◌, ℕ, ◌+◌, List, Option, Some, None, length}
+use Rattle.std.specs.Prelude.{◌≡◌, ⊤, ◌≤◌, ℕ, ◌+◌, Option, Some, None, length}
 use Rattle.std.specs.List.{All}
 use Rattle.pulse_ids.specs.Quantities.{greatest_of}
 use Rattle.pulse_ids.specs.declared.quantities.Quantity.TheVariants as quantities
-use Rattle.source_machine.specs.Machines.{PlainMachine}
 use Rattle.source_machine.specs.Additions.{with_nets}
 use Rattle.source_machine.specs.Fitting.{Fits, EquationFits, IsNumbered, size_of, size_of_cubes}
 use Rattle.blif_reader.specs.States.{BlifState, OpenEquation}

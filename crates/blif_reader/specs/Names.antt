@@ -1,5 +1,5 @@
 -- Numbers of names by first appearance.
-use Rattle.std.specs.Prelude.{◌≡◌, ℕ, ◌+◌, ◌++◌, List, [], ◌∷◌, Option, Some, None, length, unwrap_or, if◌then◌else◌}
+use Rattle.std.specs.Prelude.{◌≡◌, ℕ, ◌+◌, ◌++◌, List, [], ◌∷◌, Option, Some, None, length, slice_get, unwrap_or, if◌then◌else◌}
 use Rattle.std.specs.Option.{is_some}
 use Rattle.std.specs.Str.{bytes_eq}
 use Rattle.std.specs.Global.{Vec}
@@ -28,3 +28,7 @@ number_for names name = unwrap_or (number_in names name) (length names + 1)
 abbrev pub HasNumbers : List (List ℕ) → BTreeMap (Vec ℕ) ℕ → Type 0
 HasNumbers names numbers =
     (name : List ℕ) → get_by (λ key. slice_cmp nat_cmp name key.items) numbers ≡ number_in names name
+
+-- each name has the number of its place
+abbrev pub AreNumbered : List (List ℕ) → Type 0
+AreNumbered names = (place : ℕ) (name : List ℕ) → slice_get names place ≡ Some name → number_in names name ≡ Some (place + 1)

@@ -1,5 +1,5 @@
 -- What a reader keeps of the bytes so far, and what it answers.
-use Rattle.std.specs.Prelude.{◌≡◌, ◌⊎◌, ◌≤◌, ◌<◌, ⊤, ℕ, ◌+◌, min, true, List, Option, Some, None, Result, Ok, Err, length}
+use Rattle.std.specs.Prelude.{◌≡◌, ◌⊎◌, ◌≤◌, ⊤, ℕ, ◌+◌, min, true, List, Option, Some, None, Result, Ok, Err, length}
 use Rattle.source_machine.specs.declared.unset.Unset.{Unset}
 use Rattle.word_scan.specs.Lines.{PlainLines, IsAt, whole_lines, next_number}
 use Rattle.word_scan.specs.Logical.{PlainLogical, logical_begun, begun_line}

@@ -1,5 +1,5 @@
 -- Refusals of lines, and what comes after what isn't refused.
-use Rattle.std.specs.Prelude.{◌≡◌, ⊤, ℕ, ◌+◌, Bool, true, false, Option, Some, None, Result, Ok, Err, List, length, nat_lt, if◌then◌else◌}
+use Rattle.std.specs.Prelude.{◌≡◌, ⊤, ℕ, Bool, true, false, Result, Ok, Err, List, length, nat_lt, if◌then◌else◌}
 use Rattle.pulse_ids.specs.Quantities.{greatest_of}
 use Rattle.pulse_ids.specs.declared.quantities.Quantity.{Quantity}
 use Rattle.pulse_ids.specs.declared.quantities.Quantity.TheVariants as quantities
@@ -8,7 +8,7 @@ use Rattle.blif_reader.specs.declared.refusals.BlifCause.TheVariants as causes
 use Rattle.blif_reader.specs.declared.refusals.BlifRefusal.{BlifRefusal}
 use Rattle.blif_reader.specs.declared.refusals.BlifRefusal.TheVariants as refusals
 use Rattle.blif_reader.specs.declared.refusals.LineRefusal.{LineRefusal}
-use Rattle.blif_reader.specs.declared.refusals.LineRefusal.TheVariants.{Cause, Limit, NoMemory}
+use Rattle.blif_reader.specs.declared.refusals.LineRefusal.TheVariants.{Limit, NoMemory}
 
 -- what comes after what isn't refused
 abbrev pub after : {A B : Type 0} → Result A LineRefusal → (A → Result B LineRefusal) → Result B LineRefusal

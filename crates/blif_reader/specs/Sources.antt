@@ -1,5 +1,5 @@
 -- What a source says: its verdict, and what its first bytes show already.
-use Rattle.std.specs.Prelude.{◌≡◌, ◌≤◌, ⊤, ℕ, ◌+◌, ◌-◌, ◌++◌, ◌==◌, Bool, true, false, not, ◌||◌, ◌&&◌, List, [], ◌∷◌, Option, Some, None, Result, Ok, Err, unwrap_or, length, take, slice_get, nat_lt, if◌then◌else◌}
+use Rattle.std.specs.Prelude.{◌≡◌, ◌≤◌, ⊤, ℕ, ◌-◌, ◌++◌, ◌==◌, Bool, false, not, ◌||◌, List, [], ◌∷◌, Option, Some, None, Result, Ok, Err, unwrap_or, length, take, slice_get, nat_lt, if◌then◌else◌}
 use Rattle.std.specs.Option.{option_or}
 use Rattle.std.specs.List.{list_any}
 use Rattle.pulse_ids.specs.Quantities.{greatest_of}

@@ -1,5 +1,5 @@
 -- What each logical line says after those before it.
-use Rattle.std.specs.Prelude.{ℕ, ◌+◌, ◌++◌, ◌==◌, Bool, true, false, not, ◌||◌, ◌&&◌, List, [], ◌∷◌, Option, Some, None, Result, Ok, Err, length, slice_index, codes, nat_lt, if◌then◌else◌}
+use Rattle.std.specs.Prelude.{ℕ, ◌+◌, ◌==◌, Bool, true, false, not, ◌||◌, ◌&&◌, List, [], ◌∷◌, Option, Some, None, Result, Ok, Err, length, slice_index, codes, if◌then◌else◌}
 use Rattle.std.specs.Bool.{beq}
 use Rattle.std.specs.Str.{bytes_eq}
 use Rattle.std.specs.List.{list_any}
@@ -7,11 +7,11 @@ use Rattle.pulse_ids.specs.declared.quantities.Quantity.TheVariants as quantitie
 use Rattle.word_scan.specs.Logical.{dark_words, has_strange}
 use Rattle.word_scan.specs.Reading.{read_on}
 use Rattle.source_machine.specs.declared.unset.Unset.{Unset}
-use Rattle.source_machine.specs.Machines.{PlainEquation, PlainLiteral}
+use Rattle.source_machine.specs.Machines.{PlainLiteral}
 use Rattle.source_machine.specs.Additions.{with_input, with_output, with_cube}
 use Rattle.blif_reader.specs.declared.refusals.BlifCause.TheVariants.{BadWord, NoModel, SecondModel, AfterEnd, Unsupported, RowShape, MixedCover, StrayRow}
 use Rattle.blif_reader.specs.declared.refusals.LineRefusal.{LineRefusal}
-use Rattle.blif_reader.specs.declared.refusals.LineRefusal.TheVariants.{Cause, Limit}
+use Rattle.blif_reader.specs.declared.refusals.LineRefusal.TheVariants.{Cause}
 use Rattle.blif_reader.specs.Names.{number_for}
 use Rattle.blif_reader.specs.Rows.{cares_in, literals_of, bit_of, row_words, are_marks}
 use Rattle.blif_reader.specs.States.{BlifState, OpenEquation, closed, with_column}

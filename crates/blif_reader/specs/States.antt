@@ -1,5 +1,5 @@
 -- What the logical lines so far have built.
-use Rattle.std.specs.Prelude.{ℕ, ◌+◌, ◌++◌, Bool, true, false, List, [], ◌∷◌, Option, Some, None, length}
+use Rattle.std.specs.Prelude.{ℕ, ◌++◌, Bool, true, false, List, [], ◌∷◌, Option, Some, None}
 use Rattle.source_machine.specs.Machines.{PlainEquation, PlainMachine}
 use Rattle.source_machine.specs.Additions.{bare, with_equation, bare_equation}
 use Rattle.blif_reader.specs.declared.latch_kinds.LatchKind.{LatchKind}

@@ -86,30 +86,30 @@ pub(crate) fn row_words(constant: bool, text: &[u8]) -> Option<(&[u8], &[u8])>
 }
 
 /// Adds what a mark gives its column.
-fn add_mark(row: &mut Cover, net: NetId, mark: u8) -> Result<(), NoMemory>
+fn add_mark(cube: &mut Cover, net: NetId, mark: u8) -> Result<(), NoMemory>
     requires number { net.number < 2 ^ 31 }
-    requires few { length row.old < 2 ^ 31 }
-    ensures { OnOk result ((more : List PlainLiteral) → map literal_of row.old ++ marked net.number mark more ≡ map literal_of row.new ++ more) }
+    requires few { length cube.old < 2 ^ 31 }
+    ensures { OnOk result ((more : List PlainLiteral) → map literal_of cube.old ++ marked net.number mark more ≡ map literal_of cube.new ++ more) }
 {
     if mark == b'1' {
-        return row.push(Lit::new(net, false));
+        return cube.push(Lit::new(net, false));
     }
     if mark == b'0' {
-        return row.push(Lit::new(net, true));
+        return cube.push(Lit::new(net, true));
     }
     Ok(())
 }
 
-/// The literals that marks give columns.
+/// The cube of a row: the literals that its marks give the columns.
 pub(crate) fn read_row(alloc: Global, columns: &[NetId], marks: &[u8]) -> Result<Cover, NoMemory>
     requires numbers { All (λ net. net.number < 2 ^ 31) columns.now }
     requires same { length columns.now ≡ length marks.now }
     requires few { cares_in marks.now < 2 ^ 31 }
-    ensures { IfOk result (λ row. map literal_of row ≡ literals_of (map (λ net. net.number) columns.now) marks.now) }
+    ensures { IfOk result (λ cube. map literal_of cube ≡ literals_of (map (λ net. net.number) columns.now) marks.now) }
 {
-    let mut row = Cover::new(alloc);
+    let mut cube = Cover::new(alloc);
     for place in 0..marks.len() {
-        add_mark(&mut row, columns[place], marks[place])?;
+        add_mark(&mut cube, columns[place], marks[place])?;
     }
-    Ok(row)
+    Ok(cube)
 }

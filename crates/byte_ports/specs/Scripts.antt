@@ -1,5 +1,5 @@
 -- What the ports in memory are to their callers, and what one call makes of them.
-use Rattle.std.specs.Prelude.{ℕ, ◌-◌, ◌^◌, List, [], ◌++◌, Bool, false, ◌&&◌, ◌==◌, nat_lt, min, length, drop}
+use Rattle.std.specs.Prelude.{ℕ, ◌-◌, ◌^◌, List, [], ◌++◌, Bool, true, false, ◌&&◌, ◌==◌, nat_lt, min, length, drop}
 use Rattle.std.specs.List.{list_any}
 use Rattle.byte_ports.specs.Causes.{one_more}
 
@@ -35,18 +35,22 @@ source_after_read source count = record source { left = drop count source.left; 
 abbrev pub source_after_failure : SourceScript → SourceScript
 source_after_failure source = record source { calls = one_more source.calls; faults = one_more source.faults }
 
--- a sink in memory: the bytes taken, the most for one write, the numbers of the writes that fail, the number of the next write, the faults, and whether it is flushed
+-- a sink in memory: the bytes taken, the most for one write, the numbers of the writes that fail, the number of the next write,
+-- the numbers of the flushes that fail, the number of the next flush, the faults, and whether it is flushed
 pub record SinkScript : Type 0 where
   pub taken : List ℕ
   pub step : ℕ
   pub failing : List ℕ
   pub calls : ℕ
+  pub failing_flushes : List ℕ
+  pub flushes : ℕ
   pub faults : ℕ
   pub flushed : Bool
 
 -- a sink that was never called
-abbrev pub new_sink : ℕ → List ℕ → SinkScript
-new_sink step failing = record { taken = []; step = step; failing = failing; calls = 0; faults = 0; flushed = false }
+abbrev pub new_sink : ℕ → List ℕ → List ℕ → SinkScript
+new_sink step failing failing_flushes = record
+    { taken = []; step = step; failing = failing; calls = 0; failing_flushes = failing_flushes; flushes = 0; faults = 0; flushed = false }
 
 -- whether the next write fails, however much memory there is
 abbrev pub write_fails : SinkScript → Bool
@@ -59,6 +63,18 @@ sink_after_write sink bytes = record sink { taken = sink.taken ++ bytes; calls =
 -- the sink after a write that failed
 abbrev pub sink_after_failure : SinkScript → SinkScript
 sink_after_failure sink = record sink { calls = one_more sink.calls; faults = one_more sink.faults; flushed = false }
+
+-- whether the next flush fails
+abbrev pub flush_fails : SinkScript → Bool
+flush_fails sink = call_fails sink.failing_flushes sink.flushes
+
+-- the sink after a flush
+abbrev pub sink_after_flush : SinkScript → SinkScript
+sink_after_flush sink = record sink { flushes = one_more sink.flushes; flushed = true }
+
+-- the sink after a flush that failed
+abbrev pub sink_after_failed_flush : SinkScript → SinkScript
+sink_after_failed_flush sink = record sink { flushes = one_more sink.flushes; faults = one_more sink.faults; flushed = false }
 
 -- a sink that counts: the number of bytes, up to 2^64 - 1, and whether it is flushed
 pub record CountScript : Type 0 where

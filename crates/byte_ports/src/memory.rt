@@ -5,7 +5,7 @@ ghost use Rattle.std.specs.Io.{ReadsAtMost, WritesAtMost};
 ghost use Rattle.std.specs.Io.KnownBytes.{Keeps, ReadConsumes, WriteAppends};
 ghost use Rattle.std.proofs.Math.Nat.{min-le_right};
 ghost use Rattle.byte_ports.specs.Causes.{HasCause, as_count};
-ghost use Rattle.byte_ports.specs.Scripts.{SinkScript, SourceScript, call_fails, count_given, new_sink, new_source, read_fails, sink_after_failure, sink_after_write, source_after_failure, source_after_read, write_fails};
+ghost use Rattle.byte_ports.specs.Scripts.{SinkScript, SourceScript, call_fails, count_given, flush_fails, new_sink, new_source, read_fails, sink_after_failed_flush, sink_after_failure, sink_after_flush, sink_after_write, source_after_failure, source_after_read, write_fails};
 
 use crate::{Failed, Sink, Source};
 use std::alloc::Global;
@@ -94,6 +94,8 @@ pub struct MemorySink {
     step: usize,
     failing: Vec<u64>,
     calls: u64,
+    failing_flushes: Vec<u64>,
+    flushes: u64,
     faults: u64,
     flushed: bool,
 }
@@ -106,6 +108,8 @@ impl Model for MemorySink {
       step = s.step;
       failing = s.failing.items;
       calls = s.calls;
+      failing_flushes = s.failing_flushes.items;
+      flushes = s.flushes;
       faults = s.faults;
       flushed = s.flushed;
     } };
@@ -119,13 +123,29 @@ impl MemorySink {
     /// and those for which no memory is found. A flush never fails.
     pub fn new(alloc: Global, step: usize, failing: Vec<u64>) -> Self
         requires { 1 ≤ step }
-        ensures { result ≡ new_sink step failing.items }
+        ensures { result ≡ new_sink step failing.items [] }
+    {
+        Self::with_flush(alloc, step, failing, Vec::new(alloc))
+    }
+
+    /// As `new`, but that its flushes are numbered likewise, and those fail whose number stands in
+    /// `failing_flushes` and is below 2^64 - 1.
+    pub fn with_flush(
+        alloc: Global,
+        step: usize,
+        failing: Vec<u64>,
+        failing_flushes: Vec<u64>,
+    ) -> Self
+        requires { 1 ≤ step }
+        ensures { result ≡ new_sink step failing.items failing_flushes.items }
     {
         MemorySink {
             taken: Vec::new(alloc),
             step,
             failing,
             calls: 0,
+            failing_flushes,
+            flushes: 0,
             faults: 0,
             flushed: false,
         }
@@ -183,10 +203,18 @@ impl Sink for MemorySink {
         ensures cause { HasCause (as_count self.old.faults) (as_count self.new.faults) result }
         ensures flushed { OnOk result (IsTrue self.new.flushed) }
         ensures unflushed { OnErr result (IsFalse self.new.flushed) }
-        ensures never_fails { IsOk result }
-        ensures after { self.new ≡ record self.old { flushed = true } }
+        ensures fails { IsTrue (flush_fails self.old) → IsErr result }
+        ensures passes { IsFalse (flush_fails self.old) → IsOk result }
+        ensures after { OnOk result (self.new ≡ sink_after_flush self.old) }
+        ensures after_failure { OnErr result (self.new ≡ sink_after_failed_flush self.old) }
     {
-        self.flushed = true;
+        let fails = stands_in(&self.failing_flushes, self.flushes);
+        self.flushes = self.flushes.saturating_add(1);
+        self.flushed = !fails;
+        if fails {
+            self.faults = self.faults.saturating_add(1);
+            return Err(Failed);
+        }
         Ok(())
     }
 }

@@ -1,5 +1,5 @@
 -- Decisions that compute, one for each rule of soundness.
-use Rattle.std.specs.Prelude.{◌≡◌, ◌↔◌, ◌≤◌, ◌<◌, ℕ, zero, suc, Bool, true, false, not, ◌&&◌, ◌||◌, Option, Some, None, List, [], ◌∷◌, ◌++◌, map, length, slice_get, is_none, nat_lt, if◌then◌else◌, ◌==◌}
+use Rattle.std.specs.Prelude.{◌≡◌, ◌↔◌, ◌≤◌, ◌<◌, ℕ, zero, suc, Bool, true, false, not, ◌&&◌, ◌||◌, Option, Some, None, List, [], ◌∷◌, ◌++◌, map, length, slice_get, is_none, option_map, unwrap_or, nat_lt, if◌then◌else◌, ◌==◌}
 use Rattle.std.specs.List.{flat_map, list_any, list_all}
 use Rattle.pulse_ids.specs.Ids.{WireId}
 use Rattle.pulse_ids.specs.declared.literals.Sign.{Sign}
@@ -9,7 +9,7 @@ use Rattle.cell_netlist.specs.declared.lines.Rail.{Rail}
 use Rattle.cell_netlist.specs.declared.lines.Cell.{Cell}
 use Rattle.cell_netlist.specs.declared.lines.Cell.TheVariants.{Split, Droc}
 use Rattle.pulse_ids.specs.Lists.{IsIn, occurrences}
-use Rattle.cell_netlist.specs.Netlists.{PlainNetlist, wire_of, used, outs, reads, driven, read, number_of_wires, IsDroc, Grounded}
+use Rattle.cell_netlist.specs.Netlists.{PlainNetlist, wire_of, used, splitter_of, droc_of, outs, reads, driven, read, number_of_wires, IsDroc, Grounded}
 use Rattle.cell_netlist.specs.RailEquations.{is_front_to, is_back_from, preload_of}
 use Rattle.cell_netlist.specs.Sound.{FitsRole, IsFrontTo, IsBackFrom, IsSound}
 
@@ -69,8 +69,7 @@ is_no_rail_twice net = all_pairs are_other_rails net.input_rails
 
 -- the outputs of a DROC
 abbrev pub droc_outs : Cell → List ℕ
-droc_outs (Droc role preload feed q n) = used q ++ used n
-droc_outs cell = []
+droc_outs cell = unwrap_or (option_map (λ droc. used droc.q ++ used droc.n) (droc_of cell)) []
 
 -- all inputs of a cell are known
 abbrev pub is_ready : List ℕ → Cell → Bool
@@ -96,13 +95,11 @@ is_all_grounded net = list_all (are_outs_known (known_after net (length net.cell
 
 -- a cell is a splitter with this wire among its outputs
 abbrev pub splits_to : ℕ → Cell → Bool
-splits_to wire (Split from left right) = (left.number == wire) || (right.number == wire)
-splits_to wire cell = false
+splits_to wire cell = is_some_with (λ splitter. (splitter.left == wire) || (splitter.right == wire)) (splitter_of cell)
 
 -- the input of a splitter (0 for other cells)
 abbrev pub source_of : Cell → ℕ
-source_of (Split from left right) = from.number
-source_of cell = 0
+source_of cell = unwrap_or (option_map (λ splitter. splitter.from) (splitter_of cell)) 0
 
 -- the input of the first splitter that drives a wire
 abbrev pub splitter_above : List Cell → ℕ → Option ℕ

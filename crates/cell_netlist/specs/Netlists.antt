@@ -8,7 +8,7 @@ use Rattle.pulse_ids.specs.declared.quantities.Quantity.TheVariants.{Wires}
 use Rattle.cell_netlist.specs.Names.{AreNamesFrom}
 pub use Rattle.cell_netlist.specs.Feeds.{with_feed, cells_with_feed, IsDrocUpTo}
 pub use Rattle.cell_netlist.specs.Grounding.{IsDroc, Grounded, of_rail, of_droc, of_gate}
-pub use Rattle.cell_netlist.specs.PlainNetlists.{PlainNetlist, netlist_of, empty_netlist, wire_of, used, outs, reads, driven, read, wire_bound, number_of_wires, cell_bound}
+pub use Rattle.cell_netlist.specs.PlainNetlists.{PlainNetlist, netlist_of, empty_netlist, wire_of, used, PlainGate, PlainSplitter, PlainDroc, gate_of, splitter_of, droc_of, outs, reads, driven, read, wire_bound, number_of_wires, cell_bound}
 pub use Rattle.cell_netlist.specs.Roots.{Splits, HasSplitter, SplittersBelow, IsRoot}
 
 -- A netlist that has a text: ports are numbers of 32 bits, the wires are not too many, and the names of each

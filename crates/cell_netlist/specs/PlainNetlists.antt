@@ -1,7 +1,10 @@
 -- A netlist as plain lists, the wires that its lines drive and read, and how many wires it has.
-use Rattle.std.specs.Prelude.{◌+◌, ℕ, max, Option, Some, None, List, [], ◌∷◌, ◌++◌, map}
+use Rattle.std.specs.Prelude.{◌+◌, ℕ, Bool, max, Option, Some, None, List, [], ◌∷◌, ◌++◌, map}
 use Rattle.std.specs.List.{flat_map}
 use Rattle.pulse_ids.specs.Ids.{WireId}
+use Rattle.cell_netlist.specs.declared.kinds.Gate.{Gate}
+use Rattle.cell_netlist.specs.declared.kinds.Gate.TheVariants as gates
+use Rattle.cell_netlist.specs.declared.kinds.Role.{Role}
 use Rattle.cell_netlist.specs.declared.lines.Rail.{Rail}
 use Rattle.cell_netlist.specs.declared.lines.Cell.{Cell}
 use Rattle.cell_netlist.specs.declared.lines.Cell.TheVariants.{La, Fa, Split, Droc}
@@ -40,6 +43,42 @@ wire_of rail = rail.wire.number
 abbrev pub used : Option WireId → List ℕ
 used None = []
 used (Some wire) = wire.number ∷ []
+
+-- What stands in a cell, by what it is: each cell is a gate, a splitter or a DROC.
+
+-- an LA or FA, and the wires that it reads and drives
+pub record PlainGate : Type 0 where
+  pub gate : Gate
+  pub a : ℕ
+  pub b : ℕ
+  pub out : ℕ
+
+-- the wires of a splitter
+pub record PlainSplitter : Type 0 where
+  pub from : ℕ
+  pub left : ℕ
+  pub right : ℕ
+
+-- a DROC, and its wires
+pub record PlainDroc : Type 0 where
+  pub role : Role
+  pub preload : Bool
+  pub feed : ℕ
+  pub q : Option WireId
+  pub n : Option WireId
+
+abbrev pub gate_of : Cell → Option PlainGate
+gate_of (La a b out) = Some (record { gate = gates.La; a = a.number; b = b.number; out = out.number })
+gate_of (Fa a b out) = Some (record { gate = gates.Fa; a = a.number; b = b.number; out = out.number })
+gate_of cell = None
+
+abbrev pub splitter_of : Cell → Option PlainSplitter
+splitter_of (Split from left right) = Some (record { from = from.number; left = left.number; right = right.number })
+splitter_of cell = None
+
+abbrev pub droc_of : Cell → Option PlainDroc
+droc_of (Droc role preload feed q n) = Some (record { role = role; preload = preload; feed = feed.number; q = q; n = n })
+droc_of cell = None
 
 -- the wires that a cell drives
 abbrev pub outs : Cell → List ℕ

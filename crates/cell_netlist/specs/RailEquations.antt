@@ -1,6 +1,6 @@
 -- The equations of a netlist's rails: a bit for each wire, with no pulse and no order; the netlist's run by
 -- them; and in which phase each wire is due a pulse.
-use Rattle.std.specs.Prelude.{◌≡◌, ℕ, Bool, false, not, ◌&&◌, ◌||◌, Option, Some, None, List, [], ◌∷◌, length, if◌then◌else◌, ◌==◌}
+use Rattle.std.specs.Prelude.{◌≡◌, ℕ, Bool, false, not, ◌&&◌, ◌||◌, Option, Some, None, List, [], ◌∷◌, length, option_map, unwrap_or, if◌then◌else◌, ◌==◌}
 use Rattle.std.specs.List.{list_any}
 use Rattle.pulse_ids.specs.Ids.{WireId}
 use Rattle.cell_netlist.specs.declared.kinds.Role.TheVariants.{Front, Back, Const}
@@ -10,7 +10,7 @@ use Rattle.cell_netlist.specs.declared.lines.Rail.{Rail}
 use Rattle.cell_netlist.specs.declared.lines.Cell.{Cell}
 use Rattle.cell_netlist.specs.declared.lines.Cell.TheVariants.{La, Fa, Split, Droc}
 use Rattle.pulse_ids.specs.Lists.{IsIn, bit_at}
-use Rattle.cell_netlist.specs.Netlists.{PlainNetlist, wire_of, number_of_wires}
+use Rattle.cell_netlist.specs.Netlists.{PlainNetlist, wire_of, droc_of, number_of_wires}
 use Rattle.cell_netlist.specs.World.{has_sign, pulses_in}
 
 -- A state of the latches gives a bit to each back. A back is known by its link, the wire from its front.
@@ -55,12 +55,10 @@ is_back_from link cell = false
 
 -- a DROC's feed and preload (0 for other cells)
 abbrev pub feed_of : Cell → ℕ
-feed_of (Droc role preload feed q n) = feed.number
-feed_of cell = 0
+feed_of cell = unwrap_or (option_map (λ droc. droc.feed) (droc_of cell)) 0
 
 abbrev pub preload_of : Cell → Bool
-preload_of (Droc role preload feed q n) = preload
-preload_of cell = false
+preload_of cell = unwrap_or (option_map (λ droc. droc.preload) (droc_of cell)) false
 
 -- what a function gives of the one cell with a test, and 0 where none has it
 abbrev pub of_the : (Cell → Bool) → (Cell → Bool) → List Cell → Bool

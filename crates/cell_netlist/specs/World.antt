@@ -1,5 +1,5 @@
 -- The world of pulses: its state, its start, the opening of a phase and the delivery of a pulse.
-use Rattle.std.specs.Prelude.{◌≡◌, ◌+◌, ◌-◌, ℕ, Bool, false, not, Option, Some, None, List, [], ◌∷◌, ◌++◌, map, if◌then◌else◌, ◌==◌}
+use Rattle.std.specs.Prelude.{◌≡◌, ◌+◌, ◌-◌, ℕ, Bool, false, not, Option, Some, None, List, [], ◌∷◌, ◌++◌, map, option_map, unwrap_or, if◌then◌else◌, ◌==◌}
 use Rattle.pulse_ids.specs.declared.literals.Sign.{Sign}
 use Rattle.pulse_ids.specs.declared.literals.Sign.TheVariants.{Pos, Neg}
 use Rattle.cell_netlist.specs.declared.kinds.CellState.{CellState}
@@ -14,7 +14,7 @@ use Rattle.cell_netlist.specs.declared.lines.Rail.{Rail}
 use Rattle.cell_netlist.specs.declared.lines.Cell.{Cell}
 use Rattle.cell_netlist.specs.declared.lines.Cell.TheVariants.{La, Fa, Split, Droc}
 use Rattle.pulse_ids.specs.Lists.{IsIn, occurrences, bit_at}
-use Rattle.cell_netlist.specs.Netlists.{PlainNetlist, wire_of, used}
+use Rattle.cell_netlist.specs.Netlists.{PlainNetlist, wire_of, used, droc_of}
 use Rattle.cell_netlist.specs.Tables.{arrival, fed}
 
 -- the cell_state of each cell, the pulses pending on each wire, and the pulses that each output rail has counted
@@ -26,8 +26,7 @@ pub record State : Type 0 where
 
 -- what a cell keeps at the start: an LA or FA rests, a DROC holds its preload
 abbrev pub preloaded : Cell → CellState
-preloaded (Droc role preload feed q n) = record { held = Rest; bit = preload }
-preloaded cell = record { held = Rest; bit = false }
+preloaded cell = record { held = Rest; bit = unwrap_or (option_map (λ droc. droc.preload) (droc_of cell)) false }
 
 -- nothing pending and nothing counted
 abbrev pub start : PlainNetlist → State
@@ -55,8 +54,7 @@ rail_pulses phase vector (rail ∷ rails) =
 
 -- the wires on which the phase clock makes a cell emit: a DROC on `q` where its bit is 1 and on `n` where it is 0
 abbrev pub clocked : Cell → Bool → List ℕ
-clocked (Droc role preload feed q n) bit = used (if bit then q else n)
-clocked cell bit = []
+clocked cell bit = unwrap_or (option_map (λ droc. used (if bit then droc.q else droc.n)) (droc_of cell)) []
 
 -- the wires on which the phase clock makes the cells emit, in the order of the cells
 abbrev pub clock_pulses : List Cell → List CellState → List ℕ

@@ -15,7 +15,41 @@ pub(crate) struct Ran {
     pub(crate) notes: MemorySink,
 }
 
+/// The numbers of the calls of ports that fail.
+#[derive(Clone, Copy)]
+pub(crate) struct Failing<'a> {
+    pub(crate) reads: &'a [u64],
+    pub(crate) writes: &'a [u64],
+    pub(crate) flushes: &'a [u64],
+}
+
 /// Runs these words over ports that move so many bytes a call, whose calls of these numbers fail.
+pub(crate) fn run_failing(
+    alloc: Global,
+    texts: &[&str],
+    source: &[u8],
+    step: usize,
+    failing: Failing<'_>,
+) -> Result<Ran, Fail>
+    requires { 1 ≤ step }
+{
+    let mut words = Vec::new(alloc);
+    for text in texts {
+        words.push(String::from_str(alloc, *text)?)?;
+    }
+    let mut input = MemorySource::new(source.to_vec(alloc)?, step, failing.reads.to_vec(alloc)?);
+    let writes = failing.writes.to_vec(alloc)?;
+    let mut output = MemorySink::with_flush(alloc, step, writes, failing.flushes.to_vec(alloc)?);
+    let mut notes = MemorySink::new(alloc, step, Vec::new(alloc));
+    let outcome = run(alloc, &words, &mut input, &mut output, &mut notes);
+    Ok(Ran {
+        outcome,
+        output,
+        notes,
+    })
+}
+
+/// The same, where no flush fails.
 pub(crate) fn run_words(
     alloc: Global,
     texts: &[&str],
@@ -26,19 +60,12 @@ pub(crate) fn run_words(
 ) -> Result<Ran, Fail>
     requires { 1 ≤ step }
 {
-    let mut words = Vec::new(alloc);
-    for text in texts {
-        words.push(String::from_str(alloc, *text)?)?;
-    }
-    let mut input = MemorySource::new(source.to_vec(alloc)?, step, reads.to_vec(alloc)?);
-    let mut output = MemorySink::new(alloc, step, writes.to_vec(alloc)?);
-    let mut notes = MemorySink::new(alloc, step, Vec::new(alloc));
-    let outcome = run(alloc, &words, &mut input, &mut output, &mut notes);
-    Ok(Ran {
-        outcome,
-        output,
-        notes,
-    })
+    let failing = Failing {
+        reads,
+        writes,
+        flushes: &[],
+    };
+    run_failing(alloc, texts, source, step, failing)
 }
 
 const INVERTER: &str = "aag 1 1 0 1 0\n2\n3\n";
@@ -65,9 +92,15 @@ fn failing_ports_are_told(rt: HostRuntime) -> Result<(), Fail> {
 // read, which would fail too, nothing is told.
 #[test]
 fn refusals_are_told_at_once(rt: HostRuntime) -> Result<(), Fail> {
-    let long = vec![in rt.alloc(); b'a'; 20_000]?;
-    let unbuilt = run_words(rt.alloc(), &["compile"], &long, 4096, &[1], &[])?;
-    assert_eq!(rt; unbuilt.outcome.code(), 10);
+    let models = run_words(
+        rt.alloc(),
+        &["compile"],
+        b".model a\n.model b\n",
+        18,
+        &[1],
+        &[],
+    )?;
+    assert_eq!(rt; models.outcome.code(), 3);
     let failed = run_words(rt.alloc(), &["compile"], b"aag 1", 4, &[1, 2], &[])?;
     assert_eq!(rt; failed.outcome.code(), 7);
     let refused = run_words(rt.alloc(), &["compile"], b"aag x\n2\n", 6, &[1], &[])?;
@@ -77,7 +110,7 @@ fn refusals_are_told_at_once(rt: HostRuntime) -> Result<(), Fail> {
 
 #[test]
 fn other_words_are_refused(rt: HostRuntime) -> Result<(), Fail> {
-    let texts: [&[&str]; 12] = [
+    let texts: [&[&str]; 25] = [
         &[],
         &["Compile"],
         &["compile", "compile"],
@@ -90,6 +123,19 @@ fn other_words_are_refused(rt: HostRuntime) -> Result<(), Fail> {
         &["Check"],
         &["check", "check"],
         &["check", "--rails", "p"],
+        &["Report"],
+        &["report", "report"],
+        &["report", "--rails", "both"],
+        &["simulate", "--order", "mix:07"],
+        &["workload", "0"],
+        &["workload", "4097"],
+        &["workload"],
+        &["workload", "01"],
+        &["workload", "4", "4"],
+        &["workload", "4", "--trace", "yes"],
+        &["simulate", "--order", "mix:4294967296"],
+        &["simulate", "--order", "middle"],
+        &["simulate", "--trace", "yes", "--trace", "yes"],
     ];
     for texts in texts {
         let refused = run_words(rt.alloc(), texts, INVERTER.as_bytes(), 3, &[0], &[0])?;

@@ -253,34 +253,34 @@ const REFUSALS: [Refusal; 15] = [
         note: "limit: more than 16384 of inputs\n",
     },
     Refusal {
-        source: b"",
-        code: 10,
-        note: "not built yet\n",
-    },
-    Refusal {
-        source: b"aag",
-        code: 10,
-        note: "not built yet\n",
-    },
-    Refusal {
-        source: b"aag\n",
-        code: 10,
-        note: "not built yet\n",
-    },
-    Refusal {
-        source: b"AAG 0 0 0 0 0\n",
-        code: 10,
-        note: "not built yet\n",
-    },
-    Refusal {
-        source: b".model k\n.end\n",
-        code: 10,
-        note: "not built yet\n",
-    },
-    Refusal {
         source: b"aag 2 1 0 1 1\n2\n4\n4 2 4\n",
         code: 3,
         note: "source: combinational cycle through 2\n",
+    },
+    Refusal {
+        source: b"aag 524288 0 0 0 87381\n",
+        code: 3,
+        note: "source: line 2: truncated\n",
+    },
+    Refusal {
+        source: b"aag 524289 0 0 0 0\n",
+        code: 4,
+        note: "limit: more than 524288 of nets\n",
+    },
+    Refusal {
+        source: b"aag 90000 0 0 0 87382\n",
+        code: 4,
+        note: "limit: more than 262144 of size\n",
+    },
+    Refusal {
+        source: b"aag 1 4294967295 4294967295 0 4294967295\n",
+        code: 3,
+        note: "source: line 1: bad header\n",
+    },
+    Refusal {
+        source: b"aig 71 70 0 1 1\n142\n\x80\x80\x80\x80\x80\x00\x02",
+        code: 3,
+        note: "source: byte 20: bad delta\n",
     },
 ];
 

@@ -2,8 +2,20 @@
 #![tactic(auto)]
 
 #[cfg(test)]
+mod blif;
+#[cfg(test)]
 mod checking;
 #[cfg(test)]
 mod commands;
 #[cfg(test)]
 mod compiling;
+#[cfg(test)]
+mod failing;
+#[cfg(test)]
+mod reporting;
+#[cfg(test)]
+mod simulating;
+#[cfg(test)]
+mod simulation_refusals;
+#[cfg(test)]
+mod workloads;

@@ -10,4 +10,5 @@ pub mod Lowest
 pub mod Sizes
 pub mod PathLaws
 pub mod Counting
+pub mod OneReport
 pub mod ReportLines

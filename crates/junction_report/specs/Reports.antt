@@ -46,3 +46,7 @@ PathsAreUnique = (net : PlainNetlist) → IsSound net → (path other : List ℕ
 abbrev pub CountsAddUp : Type 0
 CountsAddUp = (net : PlainNetlist) (report : Report) → IsReport net report
     → report.la + report.fa + report.split + report.droc0 + report.droc1 ≡ length net.cells
+
+-- a sound netlist has one report only
+abbrev pub ReportsAreUnique : Type 0
+ReportsAreUnique = (net : PlainNetlist) → IsSound net → (one other : Report) → IsReport net one → IsReport net other → one ≡ other

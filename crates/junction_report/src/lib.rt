@@ -10,7 +10,7 @@ mod reporting;
 mod reports;
 mod writing;
 
-pub use laws::{counts_add_up, depths_of_cells, paths_are_walks};
+pub use laws::{counts_add_up, depths_of_cells, one_report, paths_are_walks};
 pub use reporting::report;
 pub use reports::{Path, Report};
 pub use writing::{write_report, write_sizes};

@@ -4,6 +4,8 @@
 #[cfg(test)]
 mod building;
 #[cfg(test)]
+mod counters;
+#[cfg(test)]
 mod fans;
 #[cfg(test)]
 mod random;

@@ -33,7 +33,7 @@ fn outputs_of(
 }
 
 /// Opens a phase, where it comes next, the last one is settled and the vector fits, and answers whether it did.
-fn opens(world: &mut World<'_>, net: &Netlist, phase: Phase, inputs: &[bool]) -> bool
+pub(crate) fn opens(world: &mut World<'_>, net: &Netlist, phase: Phase, inputs: &[bool]) -> bool
     requires { net.now ≡ world.old.net }
     ensures { world.new.net ≡ world.old.net }
 {

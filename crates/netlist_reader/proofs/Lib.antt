@@ -1,6 +1,7 @@
 -- The proofs of the reader of netlist texts.
 pub mod Bools
 pub mod CallerLemmas
+pub mod CallerLemmasOnRefusals
 pub mod Memory
 pub mod PortNames
 pub mod Steps

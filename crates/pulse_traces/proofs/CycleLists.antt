@@ -3,6 +3,7 @@ use Rattle.std.proofs.Common.{◌≡◌, ◌+◌, ℕ, suc, Bool, List, [], ◌�
 use Rattle.cell_netlist.specs.declared.lines.Rail.{Rail}
 use Rattle.pulse_world.specs.Worlds.{PlainWorld}
 use Rattle.schedule_replay.specs.Orders.{Cycle, MakesCycles}
+use Rattle.pulse_traces.specs.CycleCounts.{pulses_in, deliveries_in, ones_in}
 use Rattle.pulse_traces.specs.SimulationTexts.{cycle_text, text_from}
 
 -- the step after cycles
@@ -40,3 +41,16 @@ pub text-more : (trace : Bool) (rails : List Rail) (cycles : List Cycle) (cycle 
     → text_from trace rails 0 (cycles ++ cycle ∷ []) ≡ text_from trace rails 0 cycles ++ cycle_text trace rails (length cycles) cycle
 text-more trace rails cycles cycle =
     text-all trace rails cycles (cycle ∷ []) ∙ ap (λ l. text_from trace rails 0 cycles ++ l) (append-nil (cycle_text trace rails (length cycles) cycle))
+
+-- the step after cycles counts their deliveries
+steps-on : (step : ℕ) (cycles : List Cycle) → step_after step cycles ≡ step + deliveries_in cycles
+steps-on step [] = omega arith
+steps-on step (cycle ∷ cycles) = let rest = steps-on (step + length cycle.excite + length cycle.relax) cycles in omega arith
+
+pub step-deliveries : (cycles : List Cycle) → step_after 0 cycles ≡ deliveries_in cycles
+step-deliveries cycles = steps-on 0 cycles ∙ omega arith
+
+-- the pulses of one more cycle
+pub ones-more : (rails : List Rail) (cycles : List Cycle) (cycle : Cycle) → ones_in rails (cycles ++ cycle ∷ []) ≡ ones_in rails cycles + pulses_in rails cycle.excite
+ones-more rails [] cycle = omega arith
+ones-more rails (first ∷ cycles) cycle = let rest = ones-more rails cycles cycle in omega arith

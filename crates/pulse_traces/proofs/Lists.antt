@@ -1,6 +1,6 @@
 -- Items of lists.
 use Rattle.pulse_ids.specs.Lists.{IsIn}
-use Rattle.std.proofs.Common.{inr, ◌≡◌, ◌+◌, ◌≤◌, ℕ, zero, suc, Some, List, [], ◌∷◌, ◌++◌, length, take, drop, slice_get, ap, subst, arith, refl}
+use Rattle.std.proofs.Common.{inr, ◌≡◌, ◌+◌, ◌≤◌, ◌<◌, ℕ, zero, suc, Some, List, [], ◌∷◌, ◌++◌, length, take, drop, replicate, slice_get, ap, subst, arith, refl}
 
 -- an item more, and what is left after it
 take-suc-more : {X : Type 0} (xs : List X) (at : ℕ) (x : X) → slice_get xs at ≡ Some x → take (suc at) xs ≡ take at xs ++ x ∷ []
@@ -35,3 +35,9 @@ take-all [] zero h = refl
 take-all [] (suc n) h = refl
 take-all (x ∷ xs) zero h = absurd (omega arith)
 take-all (x ∷ xs) (suc n) h = ap (λ (l : List _). x ∷ l) (take-all xs n (omega arith))
+
+-- each item of a list of one item so many times
+pub replicate-at : {X : Type 0} (n at : ℕ) (x : X) → at < n → slice_get (replicate n x) at ≡ Some x
+replicate-at zero at x less = absurd (omega arith)
+replicate-at (suc n) zero x less = refl
+replicate-at (suc n) (suc at) x less = replicate-at n at x (omega arith)

@@ -4,4 +4,5 @@ pub mod Pieces
 pub mod Orders
 pub mod Rooms
 pub mod Simulations
+pub mod CycleCounts
 pub mod Scripts

@@ -8,6 +8,7 @@ use Rattle.schedule_replay.specs.Orders.{Cycle}
 use Rattle.pulse_traces.specs.declared.rooms.PhaseRoom.{PhaseRoom}
 use Rattle.pulse_traces.specs.declared.cycles.CycleRoom.{CycleRoom}
 use Rattle.pulse_traces.specs.declared.scripts.AskedCycle.{AskedCycle}
+use Rattle.pulse_traces.specs.CycleCounts.{pulses_in}
 use Rattle.pulse_traces.specs.SimulationTexts.{counts_in, digits_in}
 use Rattle.pulse_traces.specs.Pieces.{cycle_of_parts}
 
@@ -34,10 +35,11 @@ IsFresh world = world.counted ≡ counts_in world.net.output_rails []
 abbrev pub cycle_in : List Bool → CycleRoom → Cycle
 cycle_in vector room = record { vector = vector; excite = room.excite.log.wires; relax = room.relax.log.wires }
 
--- and its characters
+-- and its characters, and how many output rails pulsed in its excite
 pub record ShowsCycle (rails : List Rail) (room : CycleRoom) : Type 0 where
   pub excite : room.excite.digits.items ≡ digits_in rails room.excite.log.wires
   pub relax : room.relax.digits.items ≡ digits_in rails room.relax.log.wires
+  pub pulses : room.excite.pulses ≡ pulses_in rails room.excite.log.wires
 
 -- the text of the cycle in the room
 abbrev pub text_in : Bool → ℕ → CycleRoom → List ℕ

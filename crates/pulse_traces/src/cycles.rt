@@ -37,9 +37,9 @@ impl CycleRoom {
     }
 }
 
-/// Makes a cycle in the order of the function. Its deliveries and characters stand in the room afterwards. It answers
-/// the next step.
-fn make_cycle<F: Fn(u64, u64) -> u64 + Choose>(
+/// Makes a cycle in the order of the function. Its deliveries, characters and numbers of pulses stand in the room
+/// afterwards. It answers the next step.
+pub(crate) fn make_cycle<F: Fn(u64, u64) -> u64 + Choose>(
     world: &mut World<'_>,
     chooser: &Chooser<F>,
     step: u64,

@@ -4,6 +4,7 @@ ghost use Rattle.std.specs.Prelude.{◌≡◌, ◌+◌, ◌<◌, ◌≤◌, ◌^
 ghost use Rattle.schedule_replay.specs.Settling.{DeliversInTurn, Keeps};
 ghost use Rattle.schedule_replay.specs.Replaying.{Replays};
 ghost use Rattle.schedule_replay.specs.Logs.{wire_number};
+ghost use Rattle.pulse_traces.specs.CycleCounts.{pulses_in};
 ghost use Rattle.pulse_traces.specs.SimulationTexts.{digits_in};
 ghost use Rattle.pulse_traces.specs.Rooms.{HasRoom, IsFresh};
 
@@ -14,12 +15,13 @@ use pulse_world::World;
 use schedule_replay::{Choose, Chooser, Log, ScriptFault, replay, settle};
 use std::alloc::Global;
 
-/// The wires that a phase delivered, and a character for each output rail.
+/// The wires that a phase delivered, a character for each output rail, and how many of these pulsed.
 #[derive(Debug, Drop)]
 pub(crate) struct PhaseRoom {
     pub(crate) log: Log,
     pub(crate) digits: Vec<u8>,
     pub(crate) rails: u32,
+    pub(crate) pulses: u32,
 }
 
 fn zeros(alloc: Global, count: u32) -> Result<Vec<u8>, NoMemory>
@@ -38,12 +40,13 @@ impl PhaseRoom {
             log: Log::new(alloc, net)?,
             digits: zeros(alloc, rails)?,
             rails,
+            pulses: 0,
         })
     }
 }
 
-/// Delivers by the function until nothing is pending, in a phase that was just opened. The wires and the characters
-/// stand in the room afterwards. It answers the next step.
+/// Delivers by the function until nothing is pending, in a phase that was just opened. The wires, the characters and
+/// the number of pulses stand in the room afterwards. It answers the next step.
 pub(crate) fn settle_phase<F: Fn(u64, u64) -> u64 + Choose>(
     world: &mut World<'_>,
     chooser: &Chooser<F>,
@@ -58,11 +61,12 @@ pub(crate) fn settle_phase<F: Fn(u64, u64) -> u64 + Choose>(
     ensures next { result ≡ step + length room.new.log.wires }
     ensures few { result ≤ step + 2 ^ 22 }
     ensures digits { room.new.digits.items ≡ digits_in world.old.net.output_rails room.new.log.wires }
+    ensures pulses { room.new.pulses ≡ pulses_in world.old.net.output_rails room.new.log.wires }
     ensures room { HasRoom world.old.net room.new }
     ensures keeps { Keeps world.old world.new }
 {
     let made = settle(world, chooser, step, &mut room.log);
-    note_pulses(world, room.rails, &mut room.digits);
+    room.pulses = note_pulses(world, room.rails, &mut room.digits);
     step + made as u64
 }
 
@@ -82,6 +86,6 @@ pub(crate) fn replay_phase(
     ensures keeps { Keeps world.old world.new }
 {
     replay(world, script)?;
-    note_pulses(world, room.rails, &mut room.digits);
+    room.pulses = note_pulses(world, room.rails, &mut room.digits);
     Ok(())
 }

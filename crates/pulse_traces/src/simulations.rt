@@ -1,17 +1,19 @@
-//! A simulation: all its memory, and the writing of its text.
+//! A simulation: all its memory, the writing of its text, and the counts of its pulses.
 
-ghost use Rattle.std.specs.Prelude.{◌≡◌, ◌<◌, ◌≤◌, ◌-◌, ◌*◌, ◌/◌, ◌^◌, List, Bool, IfOk, length};
+ghost use Rattle.std.specs.Prelude.{◌≡◌, ◌<◌, ◌≤◌, ◌^◌, List, Bool, IfOk, length, replicate};
 ghost use Rattle.pulse_ids.specs.Ids.{WireId};
 ghost use Rattle.pulse_ids.specs.Lists.{IsIn};
 ghost use Rattle.schedule_replay.specs.Choosing.{AnswersBelow};
 ghost use Rattle.schedule_replay.specs.Orders.{IsBetween};
-ghost use Rattle.pulse_traces.specs.Orders.{mixed};
+ghost use Rattle.pulse_traces.specs.CycleCounts.{CountsSimulation};
+ghost use Rattle.pulse_traces.specs.Orders.{place_of};
 ghost use Rattle.pulse_traces.specs.Rooms.{HasRooms};
 ghost use Rattle.pulse_traces.specs.Scripts.{WritesReplay, scripted};
 ghost use Rattle.pulse_traces.specs.Simulations.{Follows, WritesCycles, WritesSimulation};
 
 use crate::cycles::{CycleRoom, write_cycles};
 use crate::orders::DeliveryOrder;
+use crate::pulse_counts::{PulseCounts, count_cycles};
 use crate::scripts::{CycleFault, write_scripted};
 use byte_ports::{Failed, Sink};
 use cell_netlist::SoundNet;
@@ -61,6 +63,27 @@ fn write_by<F: Fn(u64, u64) -> u64 + Choose + Drop, K: Sink>(
     write_cycles(order, &mut world, &chooser, vectors, trace, &mut room, out)
 }
 
+/// Makes the chooser of a function, and counts the pulses of cycles of one vector in its order.
+fn count_by<F: Fn(u64, u64) -> u64 + Choose + Drop>(
+    order: DeliveryOrder,
+    choose: F,
+    simulation: Simulation<'_>,
+    vector: &[bool],
+    cycles: u32,
+) -> PulseCounts
+    requires answers { AnswersBelow (F.Choose.takes choose) (F.Choose.names choose) }
+    requires order { Follows (F.Choose.names choose) order }
+    requires width { length vector.now ≡ simulation.inputs }
+    requires few { cycles ≤ 2 ^ 14 }
+    ensures { CountsSimulation order simulation.entry (replicate cycles vector.now) result }
+{
+    let chooser = Chooser::new(choose);
+    let mut world = simulation.world;
+    let mut room = simulation.room;
+    let _ = world.phase();
+    count_cycles(order, &mut world, &chooser, vector, cycles, &mut room)
+}
+
 impl<'a> Simulation<'a> {
     /// A netlist at its start. It takes all the memory that the simulation ever takes.
     pub fn new(alloc: Global, net: &'a SoundNet) -> Result<Simulation<'a>, NoMemory>
@@ -85,45 +108,40 @@ impl<'a> Simulation<'a> {
         requires width { (vector : List Bool) → IsIn vector vectors.now.vectors → length vector ≡ self.inputs }
         ensures { WritesSimulation order trace self.entry vectors.now.vectors (K.taken out.old) (K.taken out.new) (K.faults out.old) (K.faults out.new) result }
     {
-        match order {
-            DeliveryOrder::First => write_by(
-                order,
-                |_: u64, _: u64| -> u64
-                    ensures { result ≡ 0 }
-                { 0 },
-                self,
-                vectors,
-                trace,
-                out,
-            ),
-            DeliveryOrder::Last => write_by(
-                order,
-                |_: u64, count: u64| -> u64
-                    requires { 1 ≤ count }
-                    ensures { result ≡ count - 1 }
-                { count - 1 },
-                self,
-                vectors,
-                trace,
-                out,
-            ),
-            DeliveryOrder::Mix(number) => write_by(
-                order,
-                move |step: u64, count: u64| -> u64
-                    requires step { step < 2 ^ 63 }
-                    requires few { count ≤ 2 ^ 22 }
-                    ensures { result ≡ mixed number step * count / 2 ^ 32 }
-                {
-                    let mixed = (number as u64 + step) % 4_294_967_296 * 2_654_435_761
-                        % 4_294_967_296;
-                    mixed * count / 4_294_967_296
-                },
-                self,
-                vectors,
-                trace,
-                out,
-            ),
-        }
+        write_by(
+            order,
+            move |step: u64, count: u64| -> u64
+                requires step { step < 2 ^ 63 }
+                requires some { 1 ≤ count }
+                requires few { count ≤ 2 ^ 22 }
+                ensures { result ≡ place_of order step count }
+            { order.place(step, count) },
+            self,
+            vectors,
+            trace,
+            out,
+        )
+    }
+
+    /// Makes so many cycles of one vector in an order of deliveries, and counts their pulses. It writes nothing, and
+    /// takes no memory.
+    pub fn count(self, order: DeliveryOrder, vector: &[bool], cycles: u32) -> PulseCounts
+        requires width { length vector.now ≡ self.inputs }
+        requires few { cycles ≤ 2 ^ 14 }
+        ensures { CountsSimulation order self.entry (replicate cycles vector.now) result }
+    {
+        count_by(
+            order,
+            move |step: u64, count: u64| -> u64
+                requires step { step < 2 ^ 63 }
+                requires some { 1 ≤ count }
+                requires few { count ≤ 2 ^ 22 }
+                ensures { result ≡ place_of order step count }
+            { order.place(step, count) },
+            self,
+            vector,
+            cycles,
+        )
     }
 
     /// Writes the text of the simulation on vectors by their scripts, with or without the deliveries. It ends before

@@ -16,6 +16,8 @@ pub mod PulsesPerCycle
 pub mod SoundExamples
 pub mod UnsoundExamples
 pub mod QueuePlaces
+pub mod QueueMarks
+pub mod StateBits
 pub mod Reactions
 pub mod WorldMoments
 pub mod QueueRoom

@@ -1,16 +1,16 @@
 -- Rows of pending wires: what stands in them, with a table of places.
-use Rattle.std.proofs.Common.{◌≡◌, ◌≢◌, ◌+◌, ◌-◌, ◌≤◌, ◌<◌, ◌⊎◌, ℕ, zero, suc, ◌==◌, Some, None, List, [], ◌∷◌, ◌++◌, map, length, take, slice_get, slice_set, get_or, option_map, ap, sym, ◌∙◌, subst, inl, inr, arith, refl, if◌then◌else◌}
+use Rattle.std.proofs.Common.{◌≡◌, ◌≢◌, ◌+◌, ◌-◌, ◌≤◌, ◌<◌, ◌⊎◌, ℕ, zero, suc, ◌==◌, Some, List, [], ◌∷◌, ◌++◌, map, length, take, slice_get, slice_set, get_or, ap, sym, ◌∙◌, subst, inl, inr, arith, refl, if◌then◌else◌}
 use Rattle.std.specs.List.{swap_remove, sum_by}
-use Rattle.std.proofs.lemmas.Option.{slice_get_within, slice_get-get_or, get_or_from_slice_get, slice_get-map, slice_get_past}
-use Rattle.std.proofs.lemmas.List.{take-map, map-set, map-append, get_or-map, length-map, length-append}
+use Rattle.std.proofs.lemmas.Option.{slice_get_within, slice_get-get_or, get_or_from_slice_get}
+use Rattle.std.proofs.lemmas.List.{take-map, map-set, get_or-map, length-map}
 use Rattle.std.proofs.lemmas.List.Sums.{sum_by-cons, sum_by-swap_remove}
 use Rattle.pulse_ids.specs.Ids.{WireId}
 use Rattle.pulse_ids.specs.Lists.{occurrences}
 use Rattle.std.proofs.lemmas.Bool.{cases_eq, cases_lt}
 use Rattle.pulse_ids.proofs.CallerLemmas.{IsIn-place, place_of}
 use Rattle.pulse_ids.proofs.CallerLemmasOnCounts.{test_same, test_other, occurrences-IsIn, IsIn-occurrences}
-use Rattle.cell_netlist.proofs.CallerLemmasOnLists.{set-length, set-same, set-other}
-use Rattle.pulse_world.specs.PendingQueues.{PlainQueue, number_in, queue_of, ArePlaced, IsQueueOf}
+use Rattle.cell_netlist.proofs.CallerLemmasOnLists.{set-same, set-other}
+use Rattle.pulse_world.specs.PendingQueues.{PlainQueue, number_in, ArePlaced}
 use Rattle.pulse_world.proofs.Counts.{few}
 
 module _ {X : Type 0} where
@@ -143,38 +143,6 @@ module _ (queue : PlainQueue) (places : List ℕ) (placed : ArePlaced queue plac
     | inr new ↦ ap (slice_get (slice_set places wire (length queue.wires))) new.1 ∙ (set-same places wire (length queue.wires) inside ∙ ap (λ k. Some k) (sym new.0))
   ]
 
--- a queue with one more wire
-pub queue-append : (wires : List WireId) (places : List ℕ) (room : ℕ) (wire : WireId) → IsQueueOf (queue_of wires (length places)) places room
-    → wire.number < length places → occurrences wire.number (map number_in wires) ≡ 0
-    → IsQueueOf (queue_of (wires ++ wire ∷ []) (length (slice_set places wire.number (length wires)))) (slice_set places wire.number (length wires)) room
-queue-append wires places room wire kept inside none =
-    let long = set-length places wire.number (length wires) in
-    let count = length-map wires number_in in
-    let last = map-append number_in wires (wire ∷ []) in
-    record {
-      placed = λ p w e. ap (λ n. slice_get (slice_set places wire.number n) w) (sym count)
-          ∙ appended-placed (queue_of wires (length places)) places kept.placed wire.number inside none p w (subst (λ ws. slice_get ws p ≡ Some w) last e);
-      bound = refl;
-      fits = let fits = kept.fits in omega arith;
-      small = let small = kept.small in omega arith;
-    }
-
--- a queue from which the wire of a place was taken
-pub queue-remove : (wires : List WireId) (places : List ℕ) (room place : ℕ) (last d : WireId) → IsQueueOf (queue_of wires (length places)) places room
-    → place < length wires → slice_get (map number_in wires) (length wires - 1) ≡ Some last.number
-    → IsQueueOf (queue_of (swap_remove wires place d) (length (slice_set places last.number place))) (slice_set places last.number place) room
-queue-remove wires places room place last d kept inside at_last =
-    let long = set-length places last.number place in
-    let count = length-map wires number_in in
-    let at = subst (λ n. slice_get (map number_in wires) (n - 1) ≡ Some last.number) (sym count) at_last in
-    record {
-      placed = λ p w e. removed-placed (queue_of wires (length places)) places kept.placed place last.number at p w
-          (subst (λ ws. slice_get ws p ≡ Some w) (removed-numbers wires place d inside) e);
-      bound = refl;
-      fits = let fits = kept.fits in omega arith;
-      small = let small = kept.small in omega arith;
-    }
-
 -- the number of the wire at a place of a queue
 pub number-at : (wires : List WireId) (place : ℕ) (wire : WireId) → place < length wires → wire ≡ get_or wires place wire
     → slice_get (map number_in wires) place ≡ Some wire.number
@@ -182,44 +150,3 @@ number-at wires place wire inside e =
     let count = length-map wires number_in in
     slice_get-get_or (map number_in wires) place 0 (omega arith)
     ∙ ap (λ n. Some n) (get_or-map number_in wires place wire 0 inside ∙ ap number_in (sym e))
-
--- how many wires stand in a queue
-pub queue-count : (wires : List WireId) (places : List ℕ) (room : ℕ) → IsQueueOf (queue_of wires (length places)) places room → length wires ≤ length places
-queue-count wires places room kept =
-    let some = queue-few (queue_of wires (length places)) places kept.placed in let count = length-map wires number_in in omega arith
-
--- a wire that has no place in the table, or does not stand at it, stands nowhere
-pub absent : (wires : List WireId) (places : List ℕ) (room wire : ℕ) → IsQueueOf (queue_of wires (length places)) places room
-    → slice_get places wire ≡ None → occurrences wire (map number_in wires) ≡ 0
-absent wires places room wire kept none =
-    queue-none (queue_of wires (length places)) places kept.placed wire (λ p e. let at = kept.placed p wire e in cc)
-
-pub elsewhere : (wires : List WireId) (places : List ℕ) (room wire place : ℕ) → IsQueueOf (queue_of wires (length places)) places room
-    → slice_get places wire ≡ Some place → (slice_get (map number_in wires) place ≡ Some wire → ⊥) → occurrences wire (map number_in wires) ≡ 0
-elsewhere wires places room wire place kept at nowhere =
-    queue-none (queue_of wires (length places)) places kept.placed wire (λ p e.
-    let its = kept.placed p wire e in let same : p ≡ place = cc in nowhere (subst (λ k. slice_get (map number_in wires) k ≡ Some wire) same e))
-
--- the number that stands at a place of a queue, if there is one
-pub number-of : (wires : List WireId) (place : ℕ) → slice_get (map number_in wires) place ≡ option_map number_in (slice_get wires place)
-number-of wires place = slice_get-map number_in wires place
-
--- there is room for a wire that does not stand in the queue
-pub queue-room : (wires : List WireId) (places : List ℕ) (room : ℕ) (wire : WireId) → IsQueueOf (queue_of wires (length places)) places room
-    → wire.number < length places → occurrences wire.number (map number_in wires) ≡ 0 → length wires < room
-queue-room wires places room wire kept inside none =
-    let more = queue-count (wires ++ wire ∷ []) (slice_set places wire.number (length wires)) room (queue-append wires places room wire kept inside none) in
-    let long = set-length places wire.number (length wires) in
-    let fits = kept.fits in
-    let last = length-append wires (wire ∷ []) in
-    omega arith
-
--- what a look-up in a slice of these wires found
-pub get_found : (wires seen : List WireId) (place : ℕ) (found : WireId) → seen ≡ wires → place < length seen → found ≡ get_or seen place found
-    → slice_get wires place ≡ Some found
-get_found wires seen place found same inside e =
-    subst (λ ws. slice_get ws place ≡ Some found) same (slice_get-get_or seen place found inside ∙ ap (λ x. Some x) (sym e))
-
-pub get_none : (wires seen : List WireId) (place : ℕ) → seen ≡ wires → (place < length seen → ⊥) → slice_get wires place ≡ None
-get_none wires seen place same e =
-    subst (λ ws. slice_get ws place ≡ None) same (slice_get_past seen place (elim (cases_lt place (length seen)) [ inl inside ↦ absurd (e inside) | inr past ↦ past ]))

@@ -2,6 +2,8 @@
 use Rattle.std.proofs.Common.{◌≡◌, ◌+◌, ◌≤◌, ◌<◌, ℕ, zero, suc, Some, List, [], ◌∷◌, ◌++◌, map, length, slice_get, slice_set, slice_index, ap, sym, ◌∙◌, subst, inl, inr, arith, refl, ◌==◌}
 use Rattle.std.specs.List.{swap_remove}
 use Rattle.std.proofs.lemmas.Bool.{cases_Bool}
+use Rattle.std.proofs.lemmas.Option.{slice_get-get_or}
+use Rattle.cell_netlist.proofs.CallerLemmasOnLists.{set-same}
 use Rattle.pulse_ids.specs.Ids.{CellId, RailId, numbered}
 use Rattle.cell_netlist.specs.declared.lines.Rail.{Rail}
 use Rattle.cell_netlist.specs.declared.lines.Cell.{Cell}
@@ -164,6 +166,14 @@ module _ (world : PlainWorld) (is_world : IsWorld world) (place wire : ℕ) (at 
       let inside = reader-inside world.net wire id (one ∙ ap (λ r. r ∷ []) is) in
       let shape = world-shape shapes world is_world in
       (delivered, world-after world is_world place wire at _ refl refl refl delivered, ap (emitted_at world.net.cells world.cell_states) is, let rails = shape.1 in omega arith)
+
+  -- so it had counted none before
+  pub rail-unpulsed : (id : RailId) → target_at reader ≡ targets.Rail id → slice_get world.counted id.number ≡ Some 0
+  rail-unpulsed id target =
+      let step = rail-step id target in
+      let after = set-same world.counted id.number (slice_index world.counted id.number + 1) step.3 in
+      let most = count-small _ step.1 id.number (slice_index world.counted id.number + 1) after in
+      slice_get-get_or world.counted id.number 0 step.3 ∙ ap (λ n. Some n) (omega arith)
 
 -- the engine's world with other states of its cells, another queue and other counts
 pub world-is : (world : PlainWorld) (now : List CellState) (queue counted : List ℕ) (cell_states : List CellState) (its_queue its_counted : List ℕ)

@@ -1,12 +1,12 @@
 -- Netlists that break a rule, and deliver no bits.
-use Rattle.std.proofs.Common.{◌≡◌, ℕ, Bool, true, false, not, if◌then◌else◌, sym, ◌∙◌, Some, List, [], ◌∷◌, length, refl, arith, inl, inr, subst}
+use Rattle.std.proofs.Common.{◌≡◌, ℕ, Bool, true, false, not, if◌then◌else◌, sym, ◌∙◌, Some, List, [], ◌∷◌, length, refl, arith, inl, inr}
 use Rattle.pulse_ids.specs.Ids.{numbered}
 use Rattle.cell_netlist.specs.declared.kinds.Phase.TheVariants.{Excite, Relax}
-use Rattle.cell_netlist.specs.declared.kinds.Role.TheVariants.{Front, Back, Const}
+use Rattle.cell_netlist.specs.declared.kinds.Role.TheVariants.{Const}
 use Rattle.cell_netlist.specs.declared.lines.Rail.{Rail}
 use Rattle.cell_netlist.specs.declared.unsound.Unsound.{Unsound}
 use Rattle.cell_netlist.specs.declared.unsound.Unsound.TheVariants.{WireUndriven, WireTwiceDriven, WireTwiceRead, Loop, LooseDroc, WrongPreload}
-use Rattle.pulse_ids.specs.Lists.{IsIn, bit_at}
+use Rattle.pulse_ids.specs.Lists.{bit_at}
 use Rattle.cell_netlist.specs.Netlists.{PlainNetlist, number_of_wires, wire_of}
 use Rattle.cell_netlist.specs.World.{has_sign, Upset, deliver}
 use Rattle.cell_netlist.specs.Runs.{Moment, IsMoment, Event}

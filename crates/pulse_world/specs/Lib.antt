@@ -6,6 +6,7 @@ pub mod LaterMoments
 pub mod PulsesPerCycle
 pub mod Examples
 pub mod NeededRules
+pub mod PackedStates
 pub mod PendingQueues
 pub mod Reacting
 pub mod Worlds

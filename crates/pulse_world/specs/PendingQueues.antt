@@ -1,5 +1,5 @@
 -- Queues of pending wires.
-use Rattle.std.specs.Prelude.{◌≡◌, ◌≤◌, ◌<◌, ◌^◌, ◌++◌, ℕ, Some, List, map, length, slice_get}
+use Rattle.std.specs.Prelude.{◌≡◌, ◌≤◌, ◌<◌, ◌^◌, ◌++◌, ◌↔◌, ℕ, Bool, true, Some, List, map, length, slice_get}
 use Rattle.pulse_ids.specs.Ids.{WireId}
 use Rattle.pulse_ids.specs.Lists.{IsIn, occurrences}
 
@@ -20,10 +20,17 @@ queue_of wires bound = record { wires = map number_in wires; bound = bound }
 abbrev pub ArePlaced : PlainQueue → List ℕ → Type 0
 ArePlaced queue places = (place wire : ℕ) → slice_get queue.wires place ≡ Some wire → slice_get places wire ≡ Some place
 
--- a queue with its table of places and the room of its list, which is enough for all wires below the bound
-pub record IsQueueOf (queue : PlainQueue) (places : List ℕ) (room : ℕ) : Type 0 where
+-- a wire's bit is 1 exactly where the wire stands in the queue
+abbrev pub AreMarked : PlainQueue → List Bool → Type 0
+AreMarked queue marks = (wire : ℕ) → (slice_get marks wire ≡ Some true) ↔ IsIn wire queue.wires
+
+-- a queue with its table of places, a bit for each wire below the bound, and the room of its list, which is enough for all
+-- of them
+pub record IsQueueOf (queue : PlainQueue) (places : List ℕ) (marks : List Bool) (room : ℕ) : Type 0 where
   pub placed : ArePlaced queue places
+  pub marked : AreMarked queue marks
   pub bound : queue.bound ≡ length places
+  pub one_mark : queue.bound ≡ length marks
   pub fits : queue.bound ≤ room
   pub small : queue.bound < 2 ^ 32
 

@@ -9,7 +9,9 @@ mod moments;
 mod opening;
 mod orders;
 mod pending;
+mod rails;
 mod reacting;
+mod states;
 mod worlds;
 
 pub use examples::examples_deliver;

@@ -1,14 +1,18 @@
 //! The opening of a phase: the pulses on the input rails, and the phase clock.
 
-ghost use Rattle.std.specs.Prelude.{◌≡◌, ◌++◌, ◌∷◌, [], if◌then◌else◌, map, replicate, length};
+ghost use Rattle.std.specs.Prelude.{◌≡◌, ◌<◌, ◌++◌, ◌∷◌, [], Some, if◌then◌else◌, map, replicate, length, slice_get, slice_set};
 ghost use Rattle.pulse_ids.specs.Lists.{bit_at};
+ghost use Rattle.cell_netlist.specs.declared.kinds.CellState.{CellState};
+ghost use Rattle.cell_netlist.specs.declared.lines.Cell.{Cell};
 ghost use Rattle.cell_netlist.specs.Netlists.{used, wire_of};
 ghost use Rattle.cell_netlist.specs.World.{has_sign, pulses_in, rail_pulses, clocked, clock_pulses, cleared};
 ghost use Rattle.pulse_world.specs.PendingQueues.{HasRoomFor};
 ghost use Rattle.pulse_world.specs.Reacting.{wires_of};
 
 use crate::pending::PendingQueue;
+use crate::rails::RailCounts;
 use crate::reacting::Emitted;
+use crate::states::CellStates;
 use cell_netlist::{Cell, CellState, Netlist, Phase, Rail};
 use pulse_ids::{CellId, Ident, RailId, Row, Sign, WireId};
 
@@ -18,19 +22,21 @@ pub(crate) fn open_phase(
     phase: Phase,
     vector: &[bool],
     lines: &Netlist,
-    cell_states: &mut Row<CellId, CellState>,
+    cell_states: &mut CellStates<'_>,
     pending: &mut PendingQueue,
-    counted: &mut Row<RailId, u32>,
+    counted: &mut RailCounts,
 )
-    requires room { HasRoomFor pending.old (rail_pulses phase vector.now lines.now.input_rails ++ clock_pulses lines.now.cells cell_states.old) }
-    requires shape { length cell_states.old ≡ length lines.now.cells }
-    ensures queue { pending.new ≡ record pending.old { wires = pending.old.wires ++ (rail_pulses phase vector.now lines.now.input_rails ++ clock_pulses lines.now.cells cell_states.old) } }
-    ensures cleared { cell_states.new ≡ map cleared cell_states.old }
+    requires { HasRoomFor pending.old (rail_pulses phase vector.now lines.now.input_rails ++ clock_pulses cell_states.old.cells cell_states.old.states) }
+    ensures queue { pending.new ≡ record pending.old {
+      wires = pending.old.wires
+          ++ (rail_pulses phase vector.now lines.now.input_rails ++ clock_pulses cell_states.old.cells cell_states.old.states);
+    } }
+    ensures cleared { cell_states.new ≡ record cell_states.old { states = map cleared cell_states.old.states } }
     ensures counted { counted.new ≡ replicate (length counted.old) 0 }
 {
     pulse_rails(phase, vector, lines.input_rails(), pending);
-    clock_cells(lines.cells(), cell_states, pending);
-    clear_counts(counted);
+    clock_cells(cell_states, pending);
+    counted.clear();
 }
 
 // Puts the pulses of a vector on the input rails, in the order of the rails.
@@ -90,22 +96,30 @@ fn pulses(phase: Phase, vector: &[bool], rail: Rail) -> bool
 }
 
 // Reads all DROCs by the phase clock, in the order of the cells: each emits by its bit, which becomes 0.
-fn clock_cells(
-    cells: &Row<CellId, Cell>,
-    cell_states: &mut Row<CellId, CellState>,
-    pending: &mut PendingQueue,
-)
-    requires room { HasRoomFor pending.old (clock_pulses cells.now cell_states.old) }
-    requires shape { length cell_states.old ≡ length cells.now }
-    ensures emitted { pending.new ≡ record pending.old { wires = pending.old.wires ++ clock_pulses cells.now cell_states.old } }
-    ensures cleared { cell_states.new ≡ map cleared cell_states.old }
+fn clock_cells(cell_states: &mut CellStates<'_>, pending: &mut PendingQueue)
+    requires { HasRoomFor pending.old (clock_pulses cell_states.old.cells cell_states.old.states) }
+    ensures emitted { pending.new ≡ record pending.old { wires = pending.old.wires ++ clock_pulses cell_states.old.cells cell_states.old.states } }
+    ensures cleared { cell_states.new ≡ record cell_states.old { states = map cleared cell_states.old.states } }
 {
-    for number in 0..cells.len() {
-        let id = CellId::new(number);
-        let before = *cell_states.get(id);
-        append_if_used(clock_cell(*cells.get(id), before.bit), pending);
+    for number in 0..cell_states.len() {
+        let output = clock_at(cell_states, CellId::new(number));
+        append_if_used(output, pending);
+    }
+}
+
+// Reads a cell by the phase clock, and answers the wire on which it emits. Its bit becomes 0; most cells have none.
+fn clock_at(cell_states: &mut CellStates<'_>, id: CellId) -> Option<WireId>
+    requires { id.number < length cell_states.old.states }
+    ensures { (cell : Cell) × (before : CellState) × (slice_get cell_states.old.cells id.number ≡ Some cell)
+        × (slice_get cell_states.old.states id.number ≡ Some before) × (used result ≡ clocked cell before.bit)
+        × (cell_states.new ≡ record cell_states.old { states = slice_set cell_states.old.states id.number (cleared before) }) }
+{
+    let (cell, before) = cell_states.at(id);
+    let output = clock_cell(cell, before.bit);
+    if before.bit {
         cell_states.set(id, after_clock(before));
     }
+    output
 }
 
 // What a cell keeps after the phase clock.
@@ -125,14 +139,5 @@ fn clock_cell(cell: Cell, bit: bool) -> Option<WireId>
     match cell {
         Cell::Droc { q, n, .. } => { if bit { q } else { n } }
         _ => None,
-    }
-}
-
-// Sets all counts to 0.
-fn clear_counts(counted: &mut Row<RailId, u32>)
-    ensures { counted.new ≡ replicate (length counted.old) 0 }
-{
-    for number in 0..counted.len() {
-        counted.set(RailId::new(number), 0);
     }
 }

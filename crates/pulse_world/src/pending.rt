@@ -1,11 +1,11 @@
 //! The queue of the pending pulses.
 
-ghost use Rattle.std.specs.Prelude.{◌≡◌, ◌<◌, ◌≤◌, ◌++◌, ◌∷◌, [], None, Some, length, IfOk, IfSome, slice_get};
+ghost use Rattle.std.specs.Prelude.{◌≡◌, ◌<◌, ◌≤◌, ◌↔◌, ◌++◌, ◌∷◌, [], true, None, Some, length, IfOk, IfSome, slice_get};
 ghost use Rattle.std.specs.List.{swap_remove};
-ghost use Rattle.pulse_ids.specs.Lists.{occurrences};
+ghost use Rattle.pulse_ids.specs.Lists.{IsIn, occurrences};
 ghost use Rattle.pulse_world.specs.PendingQueues.{queue_of};
 
-use pulse_ids::{Ident, NoMemory, Row, WireId};
+use pulse_ids::{Bits, Ident, NoMemory, Row, WireId};
 use std::alloc::Global;
 use std::marker::Model;
 
@@ -16,6 +16,8 @@ pub(crate) struct PendingQueue {
     wires: Vec<WireId>,
     // Where a wire of the queue stands. Of other wires it says nothing.
     places: Row<WireId, u32>,
+    // Which wires stand in the queue.
+    pending: Bits<WireId>,
 }
 
 impl Model for PendingQueue {
@@ -27,7 +29,7 @@ impl Model for PendingQueue {
 
     ghost view = { λ queue. queue_of queue.wires.items (length queue.places) };
 
-    ghost invariant = { λ queue. IsQueueOf (queue_of queue.wires.items (length queue.places)) queue.places (vec_capacity queue.wires) };
+    ghost invariant = { λ queue. IsQueueOf (queue_of queue.wires.items (length queue.places)) queue.places queue.pending (vec_capacity queue.wires) };
 }
 
 impl PendingQueue {
@@ -36,8 +38,13 @@ impl PendingQueue {
         ensures { IfOk result (λ queue. queue ≡ queue_of [] bound) }
     {
         let places = Row::filled(alloc, 0, bound)?;
+        let pending = Bits::filled(alloc, bound)?;
         let wires = Vec::with_capacity(alloc, bound as usize)?;
-        Ok(PendingQueue { wires, places })
+        Ok(PendingQueue {
+            wires,
+            places,
+            pending,
+        })
     }
 
     /// How many wires stand in the queue, always at most the bound.
@@ -61,11 +68,18 @@ impl PendingQueue {
         ensures found { IfSome result (λ place. slice_get self.now.wires place ≡ Some wire.number) }
         ensures none { result ≡ None → occurrences wire.number self.now.wires ≡ 0 }
     {
-        let place = *self.places.try_get(wire.number())?;
-        match self.wires.get(place as usize) {
-            Some(found) if found.number() == wire.number() => Some(place),
-            _ => None,
+        if self.has(wire) {
+            Some(*self.places.get(wire))
+        } else {
+            None
         }
+    }
+
+    // Whether a wire, which may be any, stands in the queue.
+    fn has(&self, wire: WireId) -> bool
+        ensures { (result ≡ true) ↔ IsIn wire.number self.now.wires }
+    {
+        wire.number() < self.pending.len() && self.pending.get(wire)
     }
 
     /// Takes the wire at a place out; the last one of the queue moves into that place.
@@ -76,7 +90,9 @@ impl PendingQueue {
     {
         let last = self.wires[self.wires.len() - 1];
         self.places.set(last, place);
-        self.wires.swap_remove(place as usize)
+        let wire = self.wires.swap_remove(place as usize);
+        self.pending.set(wire, false);
+        wire
     }
 
     /// Puts a wire at the end. It is below the bound and does not stand in the queue.
@@ -86,6 +102,7 @@ impl PendingQueue {
         ensures { self.new ≡ record self.old { wires = self.old.wires ++ wire.number ∷ [] } }
     {
         self.places.set(wire, self.wires.len() as u32);
+        self.pending.set(wire, true);
         self.wires.push_reserved(wire);
     }
 }

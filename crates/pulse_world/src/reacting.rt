@@ -6,8 +6,9 @@ ghost use Rattle.cell_netlist.specs.Tables.{arrival, fed};
 ghost use Rattle.cell_netlist.specs.World.{Reaction, gate_step, droc_step};
 ghost use Rattle.pulse_world.specs.Reacting.{wires_of, reaction_of, target_at};
 
+use crate::states::CellStates;
 use cell_netlist::{Cell, CellState, Gate, Port, Reader, arrive, feed_bit};
-use pulse_ids::{CellId, RailId, Row, WireId};
+use pulse_ids::{CellId, RailId, WireId};
 
 /// The wires on which a cell emits, in order.
 #[derive(Clone, Copy, Debug, PartialEq, Eq)]
@@ -35,17 +36,14 @@ pub(crate) fn target_of(reader: Reader) -> Target
 }
 
 /// Lets a cell react to a pulse on its port, for which the cell's table has an entry, and answers what it emits.
-pub(crate) fn react_at(
-    cells: &Row<CellId, Cell>,
-    cell_states: &mut Row<CellId, CellState>,
-    id: CellId,
-    reader: Reader,
-) -> Emitted
-    requires { (reacted : Reaction) × (reaction_at cells.now cell_states.old id.number reader ≡ Some reacted) }
-    ensures { (reacted : Reaction) × (reaction_at cells.now cell_states.old id.number reader ≡ Some reacted)
-        × (cell_states.new ≡ slice_set cell_states.old id.number reacted.cell_state) × (wires_of result ≡ reacted.emitted) }
+pub(crate) fn react_at(cell_states: &mut CellStates<'_>, id: CellId, reader: Reader) -> Emitted
+    requires { (reacted : Reaction) × (reaction_at cell_states.old.cells cell_states.old.states id.number reader ≡ Some reacted) }
+    ensures { (reacted : Reaction) × (reaction_at cell_states.old.cells cell_states.old.states id.number reader ≡ Some reacted)
+        × (cell_states.new ≡ record cell_states.old { states = slice_set cell_states.old.states id.number reacted.cell_state })
+        × (wires_of result ≡ reacted.emitted) }
 {
-    let Some((next, emitted)) = react(*cells.get(id), *cell_states.get(id), reader) else {
+    let (cell, before) = cell_states.at(id);
+    let Some((next, emitted)) = react(cell, before, reader) else {
         unreachable!()
     };
     cell_states.set(id, next);

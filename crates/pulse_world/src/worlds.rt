@@ -1,6 +1,6 @@
 //! The pulse engine. Its clauses rest on the law `readers_of_wires`, whose calls do nothing.
 
-ghost use Rattle.std.specs.Prelude.{◌≡◌, ◌<◌, ◌≤◌, ◌↔◌, [], ℕ, if◌then◌else◌, true, false, map, length, IfOk, None, Some, slice_get};
+ghost use Rattle.std.specs.Prelude.{◌≡◌, ◌<◌, ◌≤◌, ◌↔◌, [], ℕ, if◌then◌else◌, true, false, length, IfOk, None, Some, slice_get};
 ghost use Rattle.cell_netlist.specs.declared.kinds.CellState.{CellState};
 ghost use Rattle.cell_netlist.specs.declared.kinds.Held.TheVariants.{Rest};
 ghost use Rattle.cell_netlist.specs.declared.kinds.Phase.TheVariants.{Excite, Relax};
@@ -8,14 +8,16 @@ ghost use Rattle.pulse_ids.specs.declared.quantities.Quantity.TheVariants.{Wires
 ghost use Rattle.pulse_ids.specs.Lists.{IsIn, occurrences};
 ghost use Rattle.pulse_ids.specs.Quantities.{greatest_of};
 ghost use Rattle.cell_netlist.specs.Netlists.{number_of_wires};
-ghost use Rattle.cell_netlist.specs.World.{preloaded, start, IsAtRest};
+ghost use Rattle.cell_netlist.specs.World.{start, IsAtRest};
 ghost use Rattle.pulse_world.specs.Worlds.{state_of, phase_of, opened_world, DeliversAt, IsWorld};
 
 use crate::opening::{append_emitted, open_phase};
 use crate::pending::PendingQueue;
+use crate::rails::RailCounts;
 use crate::reacting::{Target, react_at, target_of};
-use cell_netlist::{Cell, CellState, Held, Phase, SoundNet, readers_of_wires};
-use pulse_ids::{CellId, Ident, NoMemory, RailId, Row, WireId};
+use crate::states::CellStates;
+use cell_netlist::{CellState, Held, Phase, SoundNet, readers_of_wires};
+use pulse_ids::{CellId, Ident, NoMemory, RailId, WireId};
 use std::alloc::Global;
 use std::marker::Model;
 
@@ -26,9 +28,9 @@ pub struct World<'a> {
     net: &'a SoundNet,
     opened: Option<Phase>,
     vector: Vec<bool>,
-    cell_states: Row<CellId, CellState>,
+    cell_states: CellStates<'a>,
     pending: PendingQueue,
-    counted: Row<RailId, u32>,
+    counted: RailCounts,
 }
 
 impl<'a> Model for World<'a> {
@@ -38,10 +40,10 @@ impl<'a> Model for World<'a> {
 
     ghost Value = { PlainWorld };
 
-    ghost view = { λ world. world_of world.net.now world.opened world.vector.items world.cell_states world.pending.wires world.counted };
+    ghost view = { λ world. world_of world.net.now world.opened world.vector.items world.cell_states.states world.pending.wires world.counted };
 
-    ghost invariant = { λ world. IsWorld (world_of world.net.now world.opened world.vector.items world.cell_states world.pending.wires world.counted)
-        × (world.pending.bound ≡ number_of_wires world.net.now) };
+    ghost invariant = { λ world. IsWorld (world_of world.net.now world.opened world.vector.items world.cell_states.states world.pending.wires world.counted)
+        × (world.pending.bound ≡ number_of_wires world.net.now) × (world.cell_states.cells ≡ world.net.now.cells) };
 }
 
 impl<'a> World<'a> {
@@ -55,9 +57,9 @@ impl<'a> World<'a> {
     {
         let lines = net.net();
         let vector = Vec::from_elem(alloc, false, lines.inputs() as usize)?;
-        let cell_states = preloads(alloc, lines.cells())?;
+        let cell_states = CellStates::new(alloc, lines.cells())?;
         let pending = PendingQueue::new(alloc, lines.wires())?;
-        let counted = Row::filled(alloc, 0, lines.output_rails().len())?;
+        let counted = RailCounts::new(alloc, lines.output_rails().len())?;
         Ok(World {
             net,
             opened: None,
@@ -154,13 +156,10 @@ impl<'a> World<'a> {
         let reader = self.net.reader(wire);
         match target_of(reader) {
             Target::Cell(id) => {
-                let emitted = react_at(self.net.net().cells(), &mut self.cell_states, id, reader);
+                let emitted = react_at(&mut self.cell_states, id, reader);
                 append_emitted(emitted, &mut self.pending);
             }
-            Target::Rail(id) => {
-                let count = *self.counted.get(id);
-                self.counted.set(id, count + 1);
-            }
+            Target::Rail(id) => self.counted.count(id),
         }
         wire
     }
@@ -191,7 +190,7 @@ impl<'a> World<'a> {
         ensures { slice_get self.now.counted rail.number ≡ Some (if result then 1 else 0) }
     {
         readers_of_wires();
-        is_one(*self.counted.get(rail))
+        self.counted.has_pulsed(rail)
     }
 
     /// The bit of a DROC of the netlist.
@@ -200,7 +199,8 @@ impl<'a> World<'a> {
         ensures { (cell_state : CellState) × (slice_get self.now.cell_states cell.number ≡ Some cell_state) × (result ≡ cell_state.bit) }
     {
         readers_of_wires();
-        bit_of(*self.cell_states.get(cell))
+        let (_, cell_state) = self.cell_states.at(cell);
+        bit_of(cell_state)
     }
 
     /// Whether every LA and FA rests.
@@ -218,14 +218,6 @@ fn relax_vector(vector: &Vec<bool>) -> &[bool]
     vector.as_slice()
 }
 
-// A count of pulses that is 0 or 1.
-fn is_one(count: u32) -> bool
-    requires { count ≤ 1 }
-    ensures { count ≡ (if result then 1 else 0) }
-{
-    count == 1
-}
-
 fn bit_of(cell_state: CellState) -> bool
     ensures { result ≡ cell_state.bit }
 {
@@ -233,11 +225,12 @@ fn bit_of(cell_state: CellState) -> bool
 }
 
 // Whether all cells rest.
-fn do_rest(cell_states: &Row<CellId, CellState>) -> bool
-    ensures { (result ≡ true) ↔ ((cell_state : CellState) → IsIn cell_state cell_states.now → cell_state.held ≡ Rest) }
+fn do_rest(cell_states: &CellStates<'_>) -> bool
+    ensures { (result ≡ true) ↔ ((cell_state : CellState) → IsIn cell_state cell_states.now.states → cell_state.held ≡ Rest) }
 {
     for number in 0..cell_states.len() {
-        if !rests(*cell_states.get(CellId::new(number))) {
+        let (_, cell_state) = cell_states.at(CellId::new(number));
+        if !rests(cell_state) {
             return false;
         }
     }
@@ -248,28 +241,4 @@ fn rests(cell_state: CellState) -> bool
     ensures { (result ≡ true) ↔ (cell_state.held ≡ Rest) }
 {
     cell_state.held == Held::Rest
-}
-
-// What each cell keeps at the start.
-fn preloads(alloc: Global, cells: &Row<CellId, Cell>) -> Result<Row<CellId, CellState>, NoMemory>
-    ensures { IfOk result (λ cell_states. cell_states ≡ map preloaded cells.now) }
-{
-    let mut cell_states = Row::new(alloc);
-    for number in 0..cells.len() {
-        let _ = cell_states.push(preload(*cells.get(CellId::new(number))))?;
-    }
-    Ok(cell_states)
-}
-
-fn preload(cell: Cell) -> CellState
-    ensures { result ≡ preloaded cell }
-{
-    let bit = match cell {
-        Cell::Droc { preload, .. } => preload,
-        _ => false,
-    };
-    CellState {
-        held: Held::Rest,
-        bit,
-    }
 }

@@ -1,5 +1,5 @@
 -- Which cells and input rails the needed rails of a graph ask for, and which there are in a netlist.
-use Rattle.std.specs.Prelude.{ℕ, ◌+◌, ◌||◌, Bool, List, [], ◌∷◌, ◌++◌, map, replicate, length, if◌then◌else◌}
+use Rattle.std.specs.Prelude.{ℕ, ◌+◌, ◌||◌, Bool, List, [], ◌∷◌, ◌++◌, map, replicate, length, unwrap_or, option_map, if◌then◌else◌}
 use Rattle.std.specs.List.{flat_map, range_with_len}
 use Rattle.pulse_ids.specs.declared.literals.Sign.{Sign}
 use Rattle.pulse_ids.specs.declared.literals.Sign.TheVariants.{Pos, Neg}
@@ -8,7 +8,7 @@ use Rattle.cell_netlist.specs.declared.kinds.Gate.{Gate}
 use Rattle.cell_netlist.specs.declared.kinds.Role.{Role}
 use Rattle.cell_netlist.specs.declared.kinds.Role.TheVariants.{Front, Back, Const}
 use Rattle.cell_netlist.specs.declared.lines.Cell.{Cell}
-use Rattle.cell_netlist.specs.declared.lines.Cell.TheVariants.{La, Fa, Split, Droc}
+use Rattle.cell_netlist.specs.Netlists.{gate_of, droc_of}
 use Rattle.aig_core.specs.Graphs.{first_conjunction}
 use Rattle.graph_build.specs.Built.{PlainBuilt}
 use Rattle.rail_demand.specs.Demands.{PlainDemand, is_needed}
@@ -18,17 +18,11 @@ use Rattle.cell_netlist.specs.declared.kinds.Gate.TheVariants as gates
 
 -- the gate that a cell is, if it is one
 abbrev pub gate_in : Cell → List Gate
-gate_in (La a b out) = gates.La ∷ []
-gate_in (Fa a b out) = gates.Fa ∷ []
-gate_in (Split from left right) = []
-gate_in (Droc role preload feed q n) = []
+gate_in cell = unwrap_or (option_map (λ gate. gate.gate ∷ []) (gate_of cell)) []
 
 -- the role of a cell that is a DROC
 abbrev pub role_in : Cell → List Role
-role_in (La a b out) = []
-role_in (Fa a b out) = []
-role_in (Split from left right) = []
-role_in (Droc role preload feed q n) = role ∷ []
+role_in cell = unwrap_or (option_map (λ droc. droc.role ∷ []) (droc_of cell)) []
 
 -- a sign, where it is asked for
 abbrev pub sign_if : Bool → Sign → List Sign

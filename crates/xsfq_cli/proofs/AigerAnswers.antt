@@ -2,8 +2,8 @@
 use Rattle.std.proofs.Common.{◌≡◌, Ok, Err}
 use Rattle.std.specs.declared.result.Result.{Result}
 use Rattle.aiger_reader.specs.declared.refusals.AigerRefusal.{AigerRefusal}
-use Rattle.xsfq_cli.specs.declared.outcomes.Outcome.{Outcome}
-use Rattle.xsfq_cli.specs.Outcomes.{aiger_outcome}
+use Rattle.run_outcomes.specs.declared.outcomes.Outcome.{Outcome}
+use Rattle.run_outcomes.specs.Outcomes.{aiger_outcome}
 
 abbrev pub IsAnswer : Result Unit AigerRefusal → Result Unit Outcome → Type 0
 IsAnswer (Ok x) (Ok y) = Unit

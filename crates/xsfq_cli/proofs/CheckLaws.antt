@@ -1,20 +1,18 @@
 -- What the table gives of `check`.
 use Rattle.std.proofs.Common.{◌≡◌, ◌⊎◌, inl, inr, List, [], ℕ, Ok, Err, refl, sym, ap, subst, ◌∙◌, append-nil}
 use Rattle.std.specs.declared.result.Result.{Result}
-use Rattle.cell_netlist.specs.declared.unsound.Unsound.{Unsound}
 use Rattle.cell_netlist.specs.Netlists.{PlainNetlist}
-use Rattle.cell_netlist.specs.Sound.{IsFirstUnsound, IsSound}
 use Rattle.cell_netlist.specs.Text.{text_of}
 use Rattle.netlist_reader.specs.Laws.{TextsAreRead}
 use Rattle.netlist_reader.specs.Verdicts.{net_verdict}
 use Rattle.xsfq_cli.specs.declared.orders.Order.TheVariants.{Check}
-use Rattle.xsfq_cli.specs.declared.outcomes.Outcome.{Outcome}
-use Rattle.xsfq_cli.specs.declared.outcomes.Outcome.TheVariants as outcomes
+use Rattle.run_outcomes.specs.declared.outcomes.Outcome.{Outcome}
+use Rattle.run_outcomes.specs.declared.outcomes.Outcome.TheVariants as outcomes
 use Rattle.xsfq_cli.specs.Checked.{IsCheckBy, IsChecked, sound_line}
-use Rattle.xsfq_cli.specs.Judgements.{Refuses, Writes}
-use Rattle.xsfq_cli.specs.Laws.{AcceptedLaw, CheckedLaw, HoldsNet, OneRefusal, RefusalsAreOfBytes, RefusedLaw, SoundLaw, UnsoundLaw}
+use Rattle.xsfq_cli.specs.Judgements.{Writes}
+use Rattle.xsfq_cli.specs.Laws.{AcceptedLaw, CheckedLaw, HoldsNet, RefusalsAreOfBytes, RefusedLaw, SoundLaw, UnsoundLaw}
 use Rattle.xsfq_cli.specs.NetTexts.{net_said}
-use Rattle.xsfq_cli.specs.Table.{Input, Output, Wrote}
+use Rattle.xsfq_cli.specs.Table.{Input, Wrote}
 use Rattle.xsfq_cli.proofs.HeadlineLaws.{done_writes}
 use Rattle.xsfq_cli.proofs.Judging.{unrefused}
 use Rattle.xsfq_cli.proofs.NetReading.{said_net}
@@ -27,7 +25,7 @@ checked_law of input output answers =
     (made.bytes, made.reads_all, made.writes.0, made.writes.1, subst (λ (l : List ℕ). Wrote output l) made.writes.2 made.wrote)
 
 -- a netlist's text says it
-said_so : TextsAreRead → (input : Input) (net : PlainNetlist) → HoldsNet input net → net_said (text_of net) ≡ Ok net
+pub said_so : TextsAreRead → (input : Input) (net : PlainNetlist) → HoldsNet input net → net_said (text_of net) ≡ Ok net
 said_so read input net holds =
     said_net (text_of net) net (ap net_verdict (sym (append-nil (text_of net))) ∙ read net holds.netlist holds.limits [])
 

@@ -5,11 +5,12 @@ use Rattle.cell_netlist.specs.Netlists.{PlainNetlist}
 use Rattle.cell_netlist.specs.Text.{text_of}
 use Rattle.xsfq_cli.specs.declared.orders.Order.{Order}
 use Rattle.xsfq_cli.specs.declared.orders.Order.TheVariants.{Compile}
-use Rattle.xsfq_cli.specs.declared.outcomes.Outcome.{Outcome}
-use Rattle.xsfq_cli.specs.declared.outcomes.Outcome.TheVariants as outcomes
+use Rattle.run_outcomes.specs.declared.outcomes.Outcome.{Outcome}
+use Rattle.run_outcomes.specs.declared.outcomes.Outcome.TheVariants as outcomes
 use Rattle.xsfq_cli.specs.Headline.{IsCompiled}
 use Rattle.xsfq_cli.specs.Judgements.{reads, shown, Refuses, Writes}
 use Rattle.xsfq_cli.specs.Table.{AnswersOrder, Ends, Input, Output, ReadsAll, Wrote}
+use Rattle.xsfq_cli.proofs.Stopping.{answers_like, AnswersLike}
 use Rattle.xsfq_cli.specs.Laws.{AcceptedLaw, DoneLaw, MachineLaw, OneVerdict, RefusalsAreOfBytes}
 
 -- after `Done` the input was read, and a text for it was written
@@ -22,9 +23,9 @@ pub record IsDone (order : Order) (input : Input) (output : Output) : Type 0 whe
   pub wrote : Wrote output text
 
 pub done_writes : RefusalsAreOfBytes → (order : Order) (input : Input) (output : Output) → AnswersOrder order input output outcomes.Done → IsDone order input output
-done_writes of order input output answers = go answers
+done_writes of order input output answers = go (answers_like order input output outcomes.Done answers)
   where
-    go : AnswersOrder order input output outcomes.Done → IsDone order input output
+    go : AnswersLike order input output outcomes.Done → IsDone order input output
     go (inl (inl refused, unwritten)) = absurd (of order (refused.taken ++ refused.rest) outcomes.Done refused.refuses_all)
     go (inl (inr (inl (e, failed)), unwritten)) = cc
     go (inl (inr (inr (e, starved)), unwritten)) = cc

@@ -14,11 +14,11 @@ use Rattle.netlist_reader.specs.Places.{has_end, netlist_in}
 use Rattle.netlist_reader.specs.Readings.{Answers}
 use Rattle.netlist_reader.specs.Verdicts.{after_end, early, judged, lines_in, net_verdict}
 use Rattle.netlist_reader.proofs.CallerLemmas.{after_end_joined, ended_by_rest, lines_joined_in, quiet_ended}
-use Rattle.xsfq_cli.specs.declared.outcomes.Outcome.{Outcome}
-use Rattle.xsfq_cli.specs.declared.outcomes.Outcome.TheVariants as outcomes
-use Rattle.xsfq_cli.specs.Answering.{IsEarly, IsOrNoMemory, Tells}
+use Rattle.run_outcomes.specs.declared.outcomes.Outcome.{Outcome}
+use Rattle.run_outcomes.specs.declared.outcomes.Outcome.TheVariants as outcomes
+use Rattle.xsfq_cli.specs.Answering.{IsEarly}
 use Rattle.xsfq_cli.specs.NetTexts.{alone_by, alone_early, alone_verdict, in_outcomes, net_said, net_shown, rest_refusal, SaysNet}
-use Rattle.xsfq_cli.specs.Outcomes.{net_outcome}
+use Rattle.run_outcomes.specs.Outcomes.{net_outcome}
 
 -- a refusal is shown by a line, or by what stands after the `end` line
 data IsShown (text : List ℕ) (refusal : NetRefusal) : Type 0 where

@@ -1,28 +1,14 @@
 -- A note that was written, and the flush after it.
-use Rattle.std.proofs.Common.{◌≡◌, ◌<◌, ◌-◌, ◌^◌, ◌++◌, ◌∷◌, [], ℕ, Bool, IsTrue, IsOk, List, Option, Result, Ok, Err, codes, decimal, refl, ap, subst, append-nil, arith}
+use Rattle.std.proofs.Common.{◌≡◌, ◌<◌, ◌-◌, ◌^◌, ℕ, Bool, IsTrue, IsOk, List, Option, Result, Ok, Err, refl, subst, arith}
 use Rattle.std.specs.Io.KnownBytes.{Appends, Keeps}
 use Rattle.std.proofs.KnownBytes.{Appends-kept}
 use Rattle.byte_ports.specs.Causes.{Rose, HasCause}
 use Rattle.byte_ports.specs.Writing.{WritesText}
 use Rattle.byte_ports.proofs.CallerLemmas.{prefix_of_whole}
-use Rattle.xsfq_cli.specs.declared.outcomes.Outcome.{Outcome}
-use Rattle.xsfq_cli.specs.declared.outcomes.Outcome.TheVariants as outcomes
-use Rattle.xsfq_cli.specs.Notes.{note_of}
+use Rattle.run_outcomes.specs.declared.outcomes.Outcome.{Outcome}
+use Rattle.run_outcomes.specs.declared.outcomes.Outcome.TheVariants as outcomes
+use Rattle.run_outcomes.specs.Notes.{note_of}
 use Rattle.xsfq_cli.specs.Table.{Noted, output_of}
-
--- the same text
-pub same_text : {E : Type 0} (old new : Option (List ℕ)) (before now : ℕ) (result : Result Unit E) (text same : List ℕ) → text ≡ same
-    → WritesText old new before now result text → WritesText old new before now result same
-same_text old new before now result text same e w = subst (λ (l : List ℕ). WritesText old new before now result l) e w
-
--- the line of a limit
-pub limit_text : {number same : ℕ} {text equal : List ℕ} → number ≡ same → text ≡ equal
-    → codes "limit: more than " ++ (decimal number ++ (codes " of " ++ (text ++ 10 ∷ []))) ≡ codes "limit: more than " ++ (decimal same ++ (codes " of " ++ (equal ++ 10 ∷ [])))
-limit_text {number} {same} {text} {equal} e d = rw (e, d) refl
-
--- a text that ends with a number
-pub number_last : (before : List ℕ) (number : ℕ) → before ++ (decimal number ++ []) ≡ before ++ decimal number
-number_last before number = ap (λ l. before ++ l) (append-nil (decimal number))
 
 -- a count below its greatest value that stayed did not rise
 pub stayed : (before now : ℕ) → before < 2 ^ 64 - 1 → now ≡ before → Rose before now → ⊥

@@ -1,5 +1,5 @@
 -- What the check of an input is, once its text was read.
-use Rattle.std.proofs.Common.{◌≡◌, ◌⊎◌, inl, inr, ℕ, List, [], ◌∷◌, ◌++◌, Ok, Err, refl, sym, ap, subst, ◌∙◌, append-nil, length}
+use Rattle.std.proofs.Common.{◌≡◌, ℕ, List, [], ◌∷◌, Ok, Err, sym, ap, subst, ◌∙◌, append-nil, length}
 use Rattle.std.specs.declared.result.Result.{Result}
 use Rattle.cell_netlist.specs.NetRuns.{RunExists}
 use Rattle.cell_netlist.specs.Netlists.{PlainNetlist, IsNetlist}
@@ -9,7 +9,7 @@ use Rattle.netlist_reader.specs.declared.refusals.NetRefusal.{NetRefusal}
 use Rattle.netlist_reader.specs.Laws.{OnlyTextsAreRead}
 use Rattle.netlist_reader.specs.Verdicts.{lines_in, net_verdict}
 use Rattle.pulse_world.specs.EveryOrder.{BitLaw}
-use Rattle.xsfq_cli.specs.declared.outcomes.Outcome.{Outcome}
+use Rattle.run_outcomes.specs.declared.outcomes.Outcome.{Outcome}
 use Rattle.xsfq_cli.specs.Answering.{IsOrNoMemory}
 use Rattle.xsfq_cli.specs.Checked.{HasCheck, IsCheckBy, IsChecked, IsSoundOr}
 use Rattle.xsfq_cli.specs.Halves.{Reads}

@@ -5,8 +5,8 @@ use Rattle.std.proofs.Math.Seq.{take-append_seam}
 use Rattle.std.specs.Io.KnownBytes.{Consumes, Keeps, IsAtEnd}
 use Rattle.std.proofs.KnownBytes.{Consumes-trans, Consumes-kept}
 use Rattle.byte_ports.specs.Causes.{Rose}
-use Rattle.xsfq_cli.specs.declared.outcomes.Outcome.{Outcome}
-use Rattle.xsfq_cli.specs.declared.outcomes.Outcome.TheVariants as outcomes
+use Rattle.run_outcomes.specs.declared.outcomes.Outcome.{Outcome}
+use Rattle.run_outcomes.specs.declared.outcomes.Outcome.TheVariants as outcomes
 use Rattle.xsfq_cli.specs.Answering.{IsEarly, IsOrNoMemory, Tells}
 use Rattle.xsfq_cli.specs.Halves.{Reads}
 use Rattle.xsfq_cli.specs.Table.{Input, Leaves, Took, Refused, Stops, ReadWhole}

@@ -1,7 +1,7 @@
 -- How a reader answers: by what the bytes show or are judged to be, or for want of memory.
 use Rattle.std.specs.Prelude.{◌≡◌, ◌⊎◌, List, ℕ, ◌++◌, Option, Some, None, Result, Ok, Err}
-use Rattle.xsfq_cli.specs.declared.outcomes.Outcome.{Outcome}
-use Rattle.xsfq_cli.specs.declared.outcomes.Outcome.TheVariants.{NoMemory}
+use Rattle.run_outcomes.specs.declared.outcomes.Outcome.{Outcome}
+use Rattle.run_outcomes.specs.declared.outcomes.Outcome.TheVariants.{NoMemory}
 
 -- an answer is the refusal that is shown, or none is shown, or memory was refused
 abbrev pub Tells : {A : Type 0} → Option Outcome → Result A Outcome → Type 0

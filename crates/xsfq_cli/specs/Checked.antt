@@ -7,8 +7,8 @@ use Rattle.cell_netlist.specs.Netlists.{PlainNetlist, IsNetlist, number_of_wires
 use Rattle.cell_netlist.specs.RailEquations.{IsNetRun}
 use Rattle.cell_netlist.specs.Sound.{IsFirstUnsound, IsSound}
 use Rattle.cell_netlist.specs.Text.{text_of}
-use Rattle.xsfq_cli.specs.declared.outcomes.Outcome.{Outcome}
-use Rattle.xsfq_cli.specs.declared.outcomes.Outcome.TheVariants as outcomes
+use Rattle.run_outcomes.specs.declared.outcomes.Outcome.{Outcome}
+use Rattle.run_outcomes.specs.declared.outcomes.Outcome.TheVariants as outcomes
 use Rattle.xsfq_cli.specs.NetTexts.{net_said}
 
 -- the netlist is sound, or the outcome is the first rule that it breaks

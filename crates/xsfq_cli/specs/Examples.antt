@@ -1,7 +1,9 @@
 -- What some words order.
-use Rattle.std.specs.Prelude.{◌≡◌, List, ℕ, [], ◌∷◌, Some, None, codes}
+use Rattle.std.specs.Prelude.{◌≡◌, List, ℕ, [], ◌∷◌, Some, None, true, false, codes}
 use Rattle.cell_netlist.specs.declared.kinds.Ask.TheVariants.{Pos, Neg, Both}
-use Rattle.xsfq_cli.specs.declared.orders.Order.TheVariants.{Check, Compile}
+use Rattle.xsfq_cli.specs.declared.orders.Order.TheVariants.{Check, Compile, Report, Simulate, Workload}
+use Rattle.pulse_traces.specs.declared.orders.DeliveryOrder.TheVariants.{First, Last, Mix}
+use Rattle.xsfq_cli.specs.declared.orders.Schedule.TheVariants.{Order, Script}
 use Rattle.xsfq_cli.specs.Orders.{order_of}
 
 -- the words of `compile` and these
@@ -20,5 +22,23 @@ pub record WordsAreOrders : Type 0 where
   pub other_option : order_of (compile_with (codes "--order" ∷ codes "first" ∷ [])) ≡ None
   pub check : order_of (codes "check" ∷ []) ≡ Some Check
   pub check_with_rails : order_of (codes "check" ∷ codes "--rails" ∷ codes "p" ∷ []) ≡ None
+  pub report : order_of (codes "report" ∷ []) ≡ Some Report
+  pub report_with_rails : order_of (codes "report" ∷ codes "--rails" ∷ codes "p" ∷ []) ≡ None
+  pub check_with_order : order_of (codes "check" ∷ codes "--order" ∷ codes "first" ∷ []) ≡ None
+  pub simulate : order_of (codes "simulate" ∷ []) ≡ Some (Simulate (Order First) false)
+  pub simulate_last : order_of (codes "simulate" ∷ codes "--order" ∷ codes "last" ∷ codes "--trace" ∷ codes "no" ∷ []) ≡ Some (Simulate (Order Last) false)
+  pub simulate_mixed : order_of (codes "simulate" ∷ codes "--trace" ∷ codes "yes" ∷ codes "--order" ∷ codes "mix:7" ∷ []) ≡ Some (Simulate (Order (Mix 7)) true)
+  pub simulate_scripts : order_of (codes "simulate" ∷ codes "--order" ∷ codes "script" ∷ []) ≡ Some (Simulate Script false)
+  pub leading_zero : order_of (codes "simulate" ∷ codes "--order" ∷ codes "mix:07" ∷ []) ≡ None
+  pub no_number : order_of (codes "simulate" ∷ codes "--order" ∷ codes "mix:" ∷ []) ≡ None
+  pub great_number : order_of (codes "simulate" ∷ codes "--order" ∷ codes "mix:4294967296" ∷ []) ≡ None
+  pub simulate_with_rails : order_of (codes "simulate" ∷ codes "--rails" ∷ codes "p" ∷ []) ≡ None
+  pub trace_twice : order_of (codes "simulate" ∷ codes "--trace" ∷ codes "yes" ∷ codes "--trace" ∷ codes "no" ∷ []) ≡ None
+  pub workload : order_of (codes "workload" ∷ codes "4096" ∷ []) ≡ Some (Workload 4096)
+  pub no_bits : order_of (codes "workload" ∷ codes "0" ∷ []) ≡ None
+  pub many_bits : order_of (codes "workload" ∷ codes "4097" ∷ []) ≡ None
+  pub padded_bits : order_of (codes "workload" ∷ codes "01" ∷ []) ≡ None
+  pub workload_with_option : order_of (codes "workload" ∷ codes "4" ∷ codes "--trace" ∷ codes "no" ∷ []) ≡ None
+  pub workload_alone : order_of (codes "workload" ∷ []) ≡ None
   pub other_command : order_of (codes "checks" ∷ []) ≡ None
   pub option_first : order_of (codes "--rails" ∷ codes "p" ∷ codes "compile" ∷ []) ≡ None

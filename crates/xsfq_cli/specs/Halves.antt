@@ -1,9 +1,9 @@
 -- What the parts of a command give, in the words of the table.
 use Rattle.std.specs.Prelude.{◌≡◌, ℕ, Option, None, List, Result, Ok, Err}
 use Rattle.xsfq_cli.specs.declared.orders.Order.{Order}
-use Rattle.xsfq_cli.specs.declared.outcomes.Outcome.{Outcome}
+use Rattle.run_outcomes.specs.declared.outcomes.Outcome.{Outcome}
 use Rattle.xsfq_cli.specs.Judgements.{reads, shown, Refuses, Writes}
-use Rattle.xsfq_cli.specs.Table.{Input, Output, ReadsAll, ReadWhole, Stops, WriteFailed, Wrote}
+use Rattle.xsfq_cli.specs.Table.{Input, Output, ReadsAll, ReadWhole, Stops, StopsAs, WriteFailed, Wrote}
 
 -- What the first half of a command gives: a task for the whole input, or an outcome. A task has texts that it may
 -- write, each with its ending.
@@ -11,7 +11,7 @@ abbrev pub Prepares : {T : Type 0} → Order → Input → (T → List ℕ → O
 Prepares order input tells (Ok task) =
     (bytes : List ℕ) × ReadsAll (reads order) (shown order) input bytes
     × ((text : List ℕ) (ending : Outcome) → tells task text ending → Writes order bytes text ending)
-Prepares order input tells (Err outcome) = Stops (shown order) (Refuses order) input outcome
+Prepares order input tells (Err outcome) = StopsAs (reads order) (shown order) (Refuses order) input outcome
 
 -- What the second half gives: a text of the task was written, with this ending, or a prefix of it.
 abbrev pub Emits : {E : Type 0} → (List ℕ → Outcome → Type 0) → Output → Result Outcome E → Type 0

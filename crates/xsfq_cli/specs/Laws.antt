@@ -1,5 +1,5 @@
 -- What the table gives, and what the judgements of commands are.
-use Rattle.std.specs.Prelude.{◌≡◌, ◌⊎◌, ◌↔◌, ◌<◌, ◌≤◌, ◌+◌, ◌-◌, ◌^◌, ◌++◌, ℕ, true, List, Some, None, Result, Ok, length}
+use Rattle.std.specs.Prelude.{◌≡◌, ◌⊎◌, ◌↔◌, ◌<◌, ◌≤◌, ◌+◌, ◌-◌, ◌^◌, ◌++◌, ℕ, Bool, true, false, List, Some, None, Result, Ok, length}
 use Rattle.std.specs.Io.KnownBytes.{Consumes}
 use Rattle.byte_ports.specs.Causes.{Rose}
 use Rattle.source_machine.specs.Machines.{PlainMachine}
@@ -10,16 +10,21 @@ use Rattle.cell_netlist.specs.Sound.{IsFirstUnsound, IsSound}
 use Rattle.cell_netlist.specs.Text.{text_of}
 use Rattle.netlist_reader.specs.Laws.{IsWithinLimits}
 use Rattle.xsfq_cli.specs.declared.orders.Order.{Order}
-use Rattle.xsfq_cli.specs.declared.orders.Order.TheVariants.{Check, Compile}
-use Rattle.xsfq_cli.specs.declared.outcomes.Outcome.{Outcome}
-use Rattle.xsfq_cli.specs.declared.outcomes.Outcome.TheVariants as outcomes
+use Rattle.xsfq_cli.specs.declared.orders.Order.TheVariants.{Check, Compile, Simulate, Workload}
+use Rattle.xsfq_cli.specs.declared.orders.Schedule.{Schedule}
+use Rattle.run_outcomes.specs.declared.outcomes.Outcome.{Outcome}
+use Rattle.run_outcomes.specs.declared.outcomes.Outcome.TheVariants as outcomes
 use Rattle.xsfq_cli.specs.Checked.{IsChecked, sound_line}
 use Rattle.xsfq_cli.specs.Headline.{IsCompiled}
 use Rattle.xsfq_cli.specs.Judgements.{most_bytes, reads, shown, Refuses, Writes}
 use Rattle.xsfq_cli.specs.NetTexts.{net_shown}
-use Rattle.xsfq_cli.specs.Outcomes.{IsRefusal}
+use Rattle.run_outcomes.specs.Outcomes.{IsEnding, IsRefusal}
+use Rattle.xsfq_cli.specs.declared.simulation_inputs.SoundInput.{SoundInput}
+use Rattle.xsfq_cli.specs.Simulated.{has_scripts, HasInput, input_shown, Simulates}
 use Rattle.xsfq_cli.specs.Sources.{HasVerdict, source_shown}
-use Rattle.xsfq_cli.specs.Table.{Input, Output, Answers, ReadWhole, Unread, Unwritten, Wrote}
+use Rattle.xsfq_cli.specs.Table.{Input, Output, Answers, ReadWhole, Unread, Unwritten, WriteFailed, Wrote}
+use Rattle.xsfq_cli.specs.declared.workloads.Work.{Work}
+use Rattle.xsfq_cli.specs.Workloads.{IsDone, work_text}
 
 -- a source has at most one verdict
 abbrev pub OneVerdict : Type 0
@@ -33,7 +38,7 @@ OneRefusal = (order : Order) (bytes : List ℕ) (one other : Outcome) → Refuse
 abbrev pub RefusedHasNoText : Type 0
 RefusedHasNoText = (order : Order) (bytes text : List ℕ) (refusal ending : Outcome) → Refuses order bytes refusal → Writes order bytes text ending → ⊥
 
--- what refuses an input is a fault or limit of its bytes, that its netlist is unsound, or that it is not built yet
+-- what refuses an input is a fault or limit of its bytes, or that its netlist is unsound
 abbrev pub RefusalsAreOfBytes : Type 0
 RefusalsAreOfBytes = (order : Order) (bytes : List ℕ) (refusal : Outcome) → Refuses order bytes refusal → IsRefusal refusal
 
@@ -61,10 +66,15 @@ abbrev pub WriteFaultLaw : Type 0
 WriteFaultLaw = (order : Order) (input : Input) (output : Output) (outcome : Outcome) → output.faults < 2 ^ 64 - 1 → Answers (Some order) input output outcome
     → (outcome ≡ outcomes.WriteFault) ↔ Rose output.faults output.faults_now
 
--- after a refusal, a fault of the input and refused memory the output is as it was
+-- but where a text was written whole and flushed or the output failed, the output is as it was
 abbrev pub UnwrittenLaw : Type 0
 UnwrittenLaw = (order : Order) (input : Input) (output : Output) (outcome : Outcome) → Answers (Some order) input output outcome
-    → (outcome ≡ outcomes.Done → ⊥) → (outcome ≡ outcomes.WriteFault → ⊥) → Unwritten output
+    → (IsEnding outcome → ⊥) → (outcome ≡ outcomes.WriteFault → ⊥) → Unwritten output
+
+-- a command that reads nothing leaves its input as it was
+abbrev pub UnreadLaw : Type 0
+UnreadLaw = (order : Order) (input : Input) (output : Output) (outcome : Outcome) → reads order ≡ false
+    → Answers (Some order) input output outcome → Unread input
 
 -- where the input tells its bytes and did not fail, a refused input gives its refusal, or memory was refused
 abbrev pub RefusedLaw : Type 0
@@ -128,3 +138,19 @@ abbrev pub UnsoundLaw : Type 0
 UnsoundLaw = (input : Input) (output : Output) (outcome : Outcome) (net : PlainNetlist) (unsound : Unsound) → HoldsNet input net
     → Answers (Some Check) input output outcome → IsFirstUnsound net unsound
     → (outcome ≡ outcomes.Unsound unsound) ⊎ (outcome ≡ outcomes.NoMemory)
+
+-- After `Done` of `simulate`, and after a script's fault, the whole input was a netlist's text and vectors for it, the netlist
+-- is sound, and the output took exactly the text of its simulation and was flushed.
+abbrev pub SimulatedLaw : Type 0
+SimulatedLaw = (schedule : Schedule) (trace : Bool) (input : Input) (output : Output) (outcome : Outcome) → Answers (Some (Simulate schedule trace)) input output outcome
+    → IsEnding outcome → (bytes : List ℕ) × ReadWhole (input_shown (has_scripts schedule)) input bytes
+    × (read : SoundInput) × HasInput (has_scripts schedule) bytes (Ok read)
+    × (text : List ℕ) × Simulates schedule trace read text outcome × Wrote output text
+
+-- `workload` reads nothing. Its outcome is that memory was refused, and nothing was written; or its work was done, and the output
+-- took the netlist's text with the summary behind it and was flushed, or failed and took a prefix of it.
+abbrev pub WorkloadLaw : Type 0
+WorkloadLaw = (bits : ℕ) (input : Input) (output : Output) (outcome : Outcome) → Answers (Some (Workload bits)) input output outcome
+    → Unread input × (((outcome ≡ outcomes.NoMemory) × Unwritten output)
+    ⊎ ((work : Work) × (work.bits ≡ bits) × IsDone work
+    × (((outcome ≡ outcomes.Done) × Wrote output (work_text work)) ⊎ ((outcome ≡ outcomes.WriteFault) × WriteFailed output (work_text work)))))

@@ -9,16 +9,23 @@ use Rattle.source_machine.specs.declared.unset.Unset.TheVariants.{Refuse}
 use Rattle.aiger_reader.specs.declared.refusals.AigerRefusal.{AigerRefusal}
 use Rattle.aiger_reader.specs.declared.refusals.AigerRefusal.TheVariants as refusals
 use Rattle.aiger_reader.specs.Sources.{limit, refusal_of, shown_by}
-use Rattle.xsfq_cli.specs.Outcomes.{aiger_outcome}
-use Rattle.xsfq_cli.specs.Sources.{SourceKind, Aiger, Unbuilt, kind_of, shown_as, source_shown}
+use Rattle.blif_reader.specs.declared.refusals.BlifRefusal.{BlifRefusal}
+use Rattle.blif_reader.specs.declared.refusals.BlifRefusal.TheVariants as blif_refusals
+use Rattle.blif_reader.specs.Sources as blif_sources
+use Rattle.run_outcomes.specs.Outcomes.{aiger_outcome, blif_outcome}
+use Rattle.xsfq_cli.specs.Sources.{SourceKind, Aiger, Blif, kind_of, shown_as, source_shown}
 
 some_or : (shown : Option AigerRefusal) (refusal : AigerRefusal) → option_map aiger_outcome (option_or shown (Some refusal)) ≡ None → ⊥
 some_or None refusal h = cc
 some_or (Some x) refusal h = cc
 
+blif_or : (shown : Option BlifRefusal) (refusal : BlifRefusal) → option_map blif_outcome (option_or shown (Some refusal)) ≡ None → ⊥
+blif_or None refusal h = cc
+blif_or (Some x) refusal h = cc
+
 long_as : (kind : SourceKind) (text : List ℕ) → ltb (length text) 4 ≡ false → ltb limit (length text) ≡ true → shown_as kind text ≡ None → ⊥
 long_as Aiger text many over h = some_or (option_map refusal_of (shown_by Refuse (take limit text))) (refusals.Limit quantities.SourceBytes) (rw (many, over) at h)
-long_as Unbuilt text many over h = cc
+long_as Blif text many over h = blif_or (blif_sources.refusal_of (blif_sources.text_read Refuse (take limit text))) (blif_refusals.Limit quantities.SourceBytes) (rw over at h)
 
 pub long_shown : (text : List ℕ) → 2 ^ 26 < length text → source_shown text ≡ None → ⊥
 long_shown text long h =

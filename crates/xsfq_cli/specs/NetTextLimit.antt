@@ -8,7 +8,7 @@ use Rattle.netlist_reader.specs.declared.refusals.NetRefusal.{NetRefusal}
 use Rattle.netlist_reader.specs.Verdicts.{after_end, early, lines_in}
 use Rattle.netlist_reader.proofs.CallerLemmas.{long_has_rest}
 use Rattle.xsfq_cli.specs.NetTexts.{net_shown, rest_refusal}
-use Rattle.xsfq_cli.specs.Outcomes.{net_outcome}
+use Rattle.run_outcomes.specs.Outcomes.{net_outcome}
 
 pub long_shown : (text : List ℕ) → greatest_of NetBytes < length text → net_shown text ≡ None → ⊥
 long_shown text long quiet = by_early (early text) refl quiet

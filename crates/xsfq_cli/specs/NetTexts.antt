@@ -5,8 +5,8 @@ use Rattle.cell_netlist.specs.Netlists.{PlainNetlist}
 use Rattle.netlist_reader.specs.declared.refusals.NetRefusal.{NetRefusal}
 use Rattle.netlist_reader.specs.declared.refusals.NetRefusal.TheVariants.{BadLine}
 use Rattle.netlist_reader.specs.Verdicts.{after_end, early, lines_in, net_verdict}
-use Rattle.xsfq_cli.specs.declared.outcomes.Outcome.{Outcome}
-use Rattle.xsfq_cli.specs.Outcomes.{net_outcome}
+use Rattle.run_outcomes.specs.declared.outcomes.Outcome.{Outcome}
+use Rattle.run_outcomes.specs.Outcomes.{net_outcome}
 
 -- a byte after so many lines, of which the last is `end`, is refused as the next line
 abbrev pub rest_refusal : ℕ → List ℕ → Option NetRefusal

@@ -4,10 +4,10 @@ use Rattle.std.specs.Io.KnownBytes.{Appends, Consumes, IsAtEnd}
 use Rattle.byte_ports.specs.Causes.{Rose}
 use Rattle.byte_ports.specs.Prefixes.{TookPrefix}
 use Rattle.xsfq_cli.specs.declared.orders.Order.{Order}
-use Rattle.xsfq_cli.specs.declared.outcomes.Outcome.{Outcome}
-use Rattle.xsfq_cli.specs.declared.outcomes.Outcome.TheVariants as outcomes
+use Rattle.run_outcomes.specs.declared.outcomes.Outcome.{Outcome}
+use Rattle.run_outcomes.specs.declared.outcomes.Outcome.TheVariants as outcomes
 use Rattle.xsfq_cli.specs.Judgements.{reads, shown, Refuses, Writes}
-use Rattle.xsfq_cli.specs.Notes.{note_of}
+use Rattle.run_outcomes.specs.Notes.{note_of}
 
 -- what a call made of a source: the bytes left before and now, where it tells them, and the faults before and now
 pub record Input : Type 0 where
@@ -87,6 +87,11 @@ Stops shows refuses input outcome =
     ⊎ (((outcome ≡ outcomes.ReadFault) × ReadFailed shows input)
     ⊎ ((outcome ≡ outcomes.NoMemory) × Starved shows input))
 
+-- The same of a command that reads its input; one that doesn't stops for want of memory alone.
+abbrev pub StopsAs : Bool → (List ℕ → Option Outcome) → (List ℕ → Outcome → Type 0) → Input → Outcome → Type 0
+StopsAs true shows refuses input outcome = Stops shows refuses input outcome
+StopsAs false shows refuses input outcome = (outcome ≡ outcomes.NoMemory) × Unread input
+
 -- The whole input was read without a fault, and these are its bytes.
 pub record ReadWhole (shows : List ℕ → Option Outcome) (input : Input) (bytes : List ℕ) : Type 0 where
   pub calm : input.faults_now ≡ input.faults
@@ -126,7 +131,7 @@ pub record Performed (order : Order) (input : Input) (output : Output) (outcome 
 -- The outcomes of an order.
 abbrev pub AnswersOrder : Order → Input → Output → Outcome → Type 0
 AnswersOrder order input output outcome =
-    (Stops (shown order) (Refuses order) input outcome × Unwritten output) ⊎ Performed order input output outcome
+    (StopsAs (reads order) (shown order) (Refuses order) input outcome × Unwritten output) ⊎ Performed order input output outcome
 
 -- The outcomes of words: where they order nothing, nothing is done.
 abbrev pub Answers : Option Order → Input → Output → Outcome → Type 0

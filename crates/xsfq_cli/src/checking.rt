@@ -5,13 +5,12 @@ ghost use Rattle.byte_ports.specs.Writing.{WritesText};
 ghost use Rattle.xsfq_cli.specs.Checked.{sound_line};
 
 use crate::commands::Command;
-use crate::net_notes::write_numbered;
 use crate::netlists::read_sound;
-use crate::outcomes::Outcome;
 use byte_ports::{Failed, Sink, Source};
 use cell_netlist::{Netlist, SoundNet, equation_runs};
 use netlist_reader::texts_are_read;
 use pulse_world::every_order;
+use run_outcomes::{Outcome, write_numbered};
 use std::alloc::Global;
 
 /// Checks whether the netlist of an input is sound.
@@ -28,14 +27,16 @@ fn emit<K: Sink>(net: &Netlist, output: &mut K) -> Result<(), Failed>
 }
 
 impl Command for Check {
-    ghost use Rattle.std.specs.Prelude.{◌≡◌};
+    ghost use Rattle.std.specs.Prelude.{◌≡◌, ⊤};
     ghost use Rattle.xsfq_cli.specs.declared.orders.Order.TheVariants as orders;
-    ghost use Rattle.xsfq_cli.specs.declared.outcomes.Outcome.TheVariants as outcomes;
+    ghost use Rattle.run_outcomes.specs.declared.outcomes.Outcome.TheVariants as outcomes;
     ghost use Rattle.xsfq_cli.specs.Checked.{sound_line};
 
     type Task = SoundNet;
 
     ghost order = { λ _. orders.Check };
+
+    ghost ready = { λ _. ⊤ };
 
     ghost tells = { λ net text ending. (text ≡ sound_line net) × (ending ≡ outcomes.Done) };
 

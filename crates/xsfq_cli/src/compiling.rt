@@ -7,7 +7,6 @@ ghost use Rattle.xsfq_cli.specs.Headline.{ComputesOnce, IsNetOf};
 
 use crate::commands::Command;
 use crate::consuming::read_whole;
-use crate::outcomes::Outcome;
 use crate::sources::SourceReader;
 use aiger_reader::early_refusals_stand;
 use byte_ports::{Failed, Sink, Source};
@@ -19,6 +18,7 @@ use pulse_ids::NoMemory;
 use pulse_world::every_order;
 use rail_demand::demand;
 use rail_mapper::map;
+use run_outcomes::Outcome;
 use source_machine::{Machine, one_run};
 use std::alloc::Global;
 
@@ -29,7 +29,7 @@ pub(crate) struct Compile {
 }
 
 /// The netlist of a machine: its graph, the rails that are needed, and the cells for them.
-fn netlist_of(alloc: Global, machine: &Machine, ask: Ask) -> Result<SoundNet, NoMemory>
+pub(crate) fn netlist_of(alloc: Global, machine: &Machine, ask: Ask) -> Result<SoundNet, NoMemory>
     ensures computes { ComputesOnce machine.now }
     ensures net { IfOk result (λ net. IsNetOf machine.now ask net) }
 {
@@ -56,19 +56,22 @@ fn emit<K: Sink>(net: &Netlist, output: &mut K) -> Result<(), Failed>
 }
 
 impl Command for Compile {
-    ghost use Rattle.std.specs.Prelude.{◌≡◌};
+    ghost use Rattle.std.specs.Prelude.{◌≡◌, ⊤};
     ghost use Rattle.cell_netlist.specs.Text.{text_of};
     ghost use Rattle.xsfq_cli.specs.declared.orders.Order.TheVariants as orders;
-    ghost use Rattle.xsfq_cli.specs.declared.outcomes.Outcome.TheVariants as outcomes;
+    ghost use Rattle.run_outcomes.specs.declared.outcomes.Outcome.TheVariants as outcomes;
 
     type Task = SoundNet;
 
     ghost order = { λ command. orders.Compile command.ask };
 
+    ghost ready = { λ _. ⊤ };
+
     ghost tells = { λ net text ending. (text ≡ text_of net) × (ending ≡ outcomes.Done) };
 
     fn prepare<S: Source>(self, alloc: Global, input: &mut S) -> Result<SoundNet, Outcome> {
         early_refusals_stand();
+        blif_reader::early_refusals_stand();
         let machine = read_whole(input, SourceReader::new(alloc))?;
         let net = netlist_of(alloc, &machine, self.ask)?;
         Ok(net)

@@ -1,13 +1,13 @@
 //! Inputs that are read whole by readers that take pieces.
 
 ghost use Rattle.std.specs.Prelude.{◌≡◌, ◌<◌, ◌≤◌, ◌^◌, ◌++◌, [], ℕ, List, Option, Result, None, OnOk, length};
-ghost use Rattle.xsfq_cli.specs.declared.outcomes.Outcome.{Outcome};
+ghost use Rattle.run_outcomes.specs.declared.outcomes.Outcome.{Outcome};
 ghost use Rattle.xsfq_cli.specs.Answering.{IsEarly, IsOrNoMemory, Tells};
 ghost use Rattle.xsfq_cli.specs.Halves.{Reads, TakesWhole};
 ghost use Rattle.xsfq_cli.specs.Table.{input_of};
 
-use crate::outcomes::Outcome;
 use byte_ports::Source;
+use run_outcomes::Outcome;
 
 /// A reader that takes pieces of an input, and tells as soon as it can that the bytes are refused.
 pub(crate) trait Consumer {

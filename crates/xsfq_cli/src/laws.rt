@@ -1,12 +1,17 @@
 //! What the table of answers gives. These functions do nothing: their clauses are the laws.
 
 ghost use Rattle.netlist_reader.specs.Laws.{EarlyStands};
-ghost use Rattle.xsfq_cli.specs.Laws.{AcceptedLaw, BoundedLaw, CheckedLaw, DoneLaw, MachineLaw, OneRefusal, OneVerdict, OnlyRefusedLaw, ReadFaultLaw, RefusalsAreOfBytes, RefusedHasNoText, RefusedLaw, ShownIsRefused, SoundLaw, UnsoundLaw, UnwrittenLaw, UsageLaw, WriteFaultLaw};
+ghost use Rattle.simulation_reader.specs.Laws as inputs;
+ghost use Rattle.xsfq_cli.specs.Laws.{AcceptedLaw, BoundedLaw, CheckedLaw, DoneLaw, MachineLaw, OneRefusal, OneVerdict, OnlyRefusedLaw, ReadFaultLaw, RefusalsAreOfBytes, RefusedHasNoText, RefusedLaw, ShownIsRefused, SimulatedLaw, SoundLaw, UnsoundLaw, UnreadLaw, UnwrittenLaw, UsageLaw, WorkloadLaw, WriteFaultLaw};
 ghost use Rattle.xsfq_cli.specs.Examples.{WordsAreOrders};
+ghost use Rattle.xsfq_cli.specs.ReportLaws.{OneReportText, ReportedLaw, SoundIsReported, UnsoundIsNotReported};
 
 use aiger_reader::early_refusals_stand;
+use blif_reader::sources_are_told;
 use cell_netlist::one_refusal;
+use junction_report::one_report;
 use netlist_reader::texts_are_read;
+use simulation_reader::refusals_are_of_bytes;
 use source_machine::one_verdict;
 
 /// What the first bytes of a netlist's text show stands.
@@ -14,6 +19,13 @@ fn net_refusals_stand()
     ensures { EarlyStands }
 {
     netlist_reader::early_refusals_stand();
+}
+
+/// What the first bytes of an input of `simulate` show stands.
+fn input_refusals_stand()
+    ensures { inputs.EarlyStands }
+{
+    simulation_reader::early_refusals_stand();
 }
 
 /// What a command makes of an input is one thing: one verdict of a source, one refusal of an input, and none where
@@ -27,8 +39,12 @@ pub fn one_judgement()
 {
     one_verdict();
     early_refusals_stand();
+    blif_reader::early_refusals_stand();
+    sources_are_told();
+    refusals_are_of_bytes();
     one_refusal();
     net_refusals_stand();
+    input_refusals_stand();
 }
 
 /// Each outcome comes exactly where the table says. Words that order nothing are `Usage`; a fault of a port is
@@ -39,6 +55,7 @@ pub fn each_outcome_has_its_cause()
     ensures read_fault { ReadFaultLaw }
     ensures write_fault { WriteFaultLaw }
     ensures unwritten { UnwrittenLaw }
+    ensures unread { UnreadLaw }
     ensures refused { RefusedLaw }
     ensures accepted { AcceptedLaw }
     ensures only { OnlyRefusedLaw }
@@ -69,6 +86,33 @@ pub fn netlists_are_checked()
     texts_are_read();
     one_refusal();
 }
+
+/// What stands after `Done` of `report`, which is one text only, and that each netlist's text comes there exactly where the
+/// netlist is sound, and else to the first rule that it breaks, unless a port failed or memory was refused.
+pub fn netlists_are_reported()
+    ensures done { ReportedLaw }
+    ensures one { OneReportText }
+    ensures sound { SoundIsReported }
+    ensures unsound { UnsoundIsNotReported }
+{
+    one_judgement();
+    each_outcome_has_its_cause();
+    texts_are_read();
+    one_refusal();
+    one_report();
+}
+
+/// What stands after `Done` of `simulate`, and after a script's fault.
+pub fn netlists_are_simulated()
+    ensures { SimulatedLaw }
+{
+    one_judgement();
+}
+
+/// What `workload` answers.
+pub fn workloads_are_done()
+    ensures { WorkloadLaw }
+{}
 
 /// What some words order.
 pub fn words_are_orders()

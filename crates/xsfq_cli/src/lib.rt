@@ -9,18 +9,20 @@ mod commands;
 mod compiling;
 mod consuming;
 mod laws;
-mod net_notes;
 mod netlists;
 mod notes;
 mod orders;
-mod outcomes;
+mod reporting;
 mod running;
+mod simulating;
+mod simulation_inputs;
 mod sources;
+mod workloads;
 
 pub use laws::{
-    each_outcome_has_its_cause, machines_are_compiled, netlists_are_checked, one_judgement,
-    words_are_orders,
+    each_outcome_has_its_cause, machines_are_compiled, netlists_are_checked, netlists_are_reported,
+    netlists_are_simulated, one_judgement, words_are_orders, workloads_are_done,
 };
-pub use orders::Order;
-pub use outcomes::Outcome;
+pub use orders::{Order, Schedule};
+pub use run_outcomes::Outcome;
 pub use running::run;

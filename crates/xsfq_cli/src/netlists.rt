@@ -1,6 +1,6 @@
 //! Inputs that hold one netlist's text.
 
-ghost use Rattle.std.specs.Prelude.{[]};
+ghost use Rattle.std.specs.Prelude.{◌≡◌, [], length, nat_lt};
 ghost use Rattle.netlist_reader.specs.Readings.{IsReading};
 ghost use Rattle.xsfq_cli.specs.Answering.{IsOrNoMemory};
 ghost use Rattle.xsfq_cli.specs.Checked.{HasCheck, IsSoundOr};
@@ -9,11 +9,11 @@ ghost use Rattle.xsfq_cli.specs.NetTexts.{net_shown};
 ghost use Rattle.xsfq_cli.specs.Table.{input_of};
 
 use crate::consuming::{Consumer, read_whole};
-use crate::outcomes::Outcome;
 use byte_ports::Source;
 use cell_netlist::{Netlist, SoundNet};
 use netlist_reader::{NetReader, NetRefusal, early_refusals_stand};
 use rail_checker::{Refused, check};
+use run_outcomes::Outcome;
 use std::alloc::Global;
 
 /// A reader of one netlist's text, after which nothing stands.
@@ -31,6 +31,13 @@ impl NetTextReader {
             reader: NetReader::new(alloc),
         }
     }
+}
+
+/// Whether a piece has bytes after those that were taken.
+fn leaves_bytes(used: usize, piece: &[u8]) -> bool
+    ensures { result ≡ nat_lt used (length piece.now) }
+{
+    used < piece.len()
 }
 
 impl Consumer for NetTextReader {
@@ -53,7 +60,7 @@ impl Consumer for NetTextReader {
     fn feed(&mut self, piece: &[u8]) -> Result<(), Outcome> {
         match self.reader.feed(piece) {
             Ok(fed) => {
-                if fed.used < piece.len() {
+                if leaves_bytes(fed.used, piece) {
                     return Err(Outcome::NetText(NetRefusal::BadLine(self.reader.lines() + 1)));
                 }
                 Ok(())
@@ -77,7 +84,7 @@ impl Consumer for NetTextReader {
 }
 
 /// A netlist with the tables of its wires, or the first rule of soundness that it breaks.
-fn judged(alloc: Global, net: Netlist) -> Result<SoundNet, Outcome>
+pub(crate) fn judged(alloc: Global, net: Netlist) -> Result<SoundNet, Outcome>
     ensures { IsOrNoMemory (IsSoundOr net) result }
 {
     match check(alloc, net) {

@@ -1,10 +1,13 @@
 //! What the words of a command line order.
 
-ghost use Rattle.std.specs.Prelude.{◌≡◌, Some, map};
+ghost use Rattle.std.specs.Prelude.{◌≡◌, ◌∷◌, IfSome, Some, map};
+ghost use Rattle.xsfq_cli.specs.Workloads.{IsInRange};
 ghost use Rattle.std.specs.String.{string_bytes};
-ghost use Rattle.xsfq_cli.specs.Orders.{ask_of, no_options, options_with, order_of, order_with, unless_given, with_option};
+ghost use Rattle.xsfq_cli.specs.Orders.{ask_of, asks_any, asks_simulation, mixed_of, no_options, options_with, order_of, order_with, schedule_of, trace_of, unless, with_option, workload_of, workload_with};
 
 use cell_netlist::Ask;
+use pulse_traces::DeliveryOrder;
+use word_scan::plain_decimal;
 
 /// A command and what it is asked for.
 #[derive(Clone, Copy, Debug, PartialEq, Eq)]
@@ -13,29 +16,61 @@ pub enum Order {
     Compile(Ask),
     /// Check whether a netlist is sound.
     Check,
+    /// Report what a sound netlist costs and how deep it is.
+    Report,
+    /// Simulate a netlist on vectors by this schedule, and write the deliveries too where that is asked for.
+    Simulate(Schedule, bool),
+    /// Make a counter of so many bits, from 1 to 4,096, compile it, simulate it and report on it.
+    Workload(u32),
+}
+
+/// What says which of the pending pulses is delivered next.
+#[derive(Clone, Copy, Debug, PartialEq, Eq)]
+pub enum Schedule {
+    /// An order of deliveries.
+    Order(DeliveryOrder),
+    /// Scripts of the input, one for each phase.
+    Script,
 }
 
 /// The values of the options of all commands, where they are given.
 #[derive(Clone, Copy, Debug, PartialEq, Eq)]
 pub struct Options {
     pub(crate) rails: Option<Ask>,
+    pub(crate) schedule: Option<Schedule>,
+    pub(crate) trace: Option<bool>,
 }
 
-const NO_OPTIONS: Options = Options { rails: None };
+const NO_OPTIONS: Options = Options {
+    rails: None,
+    schedule: None,
+    trace: None,
+};
 
 impl Order {
     /// The order of the words after the program's name, or None where they order nothing. The first word is the
     /// command. Pairs of an option and its value follow in any order, each option at most once: for `compile`
-    /// the option `--rails` with `p`, `n` or `both`, which is `p` where it isn't given. `check` has no options.
+    /// the option `--rails` with `p`, `n` or `both`, which is `p` where it isn't given; for `simulate` the options
+    /// `--order` with `first`, `last`, `mix:` and a plain decimal below 2^32, or `script`, which is `first` where it
+    /// isn't given, and `--trace` with `yes` or `no`, which is `no` where it isn't given. `check` and `report` have no
+    /// options. `workload` is followed by one plain decimal from 1 to 4,096.
     pub fn from_words(words: &[String]) -> Option<Order>
-        ensures { result ≡ order_of (map string_bytes words.now) }
+        ensures order { result ≡ order_of (map string_bytes words.now) }
+        ensures range { IfSome result (λ order. IsInRange order) }
     {
         match words {
             [] => None,
-            [command, pairs @ ..] => match Options::from_pairs(pairs) {
-                Some(options) => Order::with_options(command.as_str(), options),
-                None => None,
-            },
+            [command, others @ ..] => Order::with_words(command.as_str(), others),
+        }
+    }
+
+    /// The order of a command with the words after it.
+    fn with_words(command: &str, others: &[String]) -> Option<Order>
+        ensures { result ≡ order_of (command.now ∷ map string_bytes others.now) }
+    {
+        match command {
+            "workload" => workload_of(others),
+            _ => Order::with_options(command, Options::from_pairs(others)?),
         }
     }
 
@@ -44,8 +79,21 @@ impl Order {
         ensures { result ≡ order_with command.now options }
     {
         match command {
-            "compile" => Some(Order::Compile(options.rails.unwrap_or(Ask::Pos))),
-            "check" => unless_given(options.rails, Order::Check),
+            "compile" => unless(
+                options.asks_simulation(),
+                Order::Compile(options.rails.unwrap_or(Ask::Pos)),
+            ),
+            "check" => unless(options.asks_any(), Order::Check),
+            "report" => unless(options.asks_any(), Order::Report),
+            "simulate" => unless(
+                options.rails.is_some(),
+                Order::Simulate(
+                    options
+                        .schedule
+                        .unwrap_or(Schedule::Order(DeliveryOrder::First)),
+                    options.trace.unwrap_or(false),
+                ),
+            ),
             _ => None,
         }
     }
@@ -76,23 +124,56 @@ impl Options {
     fn with(self, name: &str, value: &str) -> Option<Options>
         ensures { result ≡ with_option self name.now value.now }
     {
+        let mut options = self;
         match name {
-            "--rails" if self.rails.is_none() => match ask_of(value) {
-                Some(ask) => Some(Options { rails: Some(ask) }),
-                None => None,
-            },
-            _ => None,
+            "--rails" if self.rails.is_none() => options.rails = Some(ask_of(value)?),
+            "--order" if self.schedule.is_none() => options.schedule = Some(schedule_of(value)?),
+            "--trace" if self.trace.is_none() => options.trace = Some(trace_of(value)?),
+            _ => return None,
         }
+        Some(options)
+    }
+
+    /// Whether any option is given.
+    fn asks_any(self) -> bool
+        ensures { result ≡ asks_any self }
+    {
+        self.rails.is_some() || self.asks_simulation()
+    }
+
+    /// Whether an option of `simulate` is given.
+    fn asks_simulation(self) -> bool
+        ensures { result ≡ asks_simulation self }
+    {
+        self.schedule.is_some() || self.trace.is_some()
     }
 }
 
-/// An order that has no such option.
-fn unless_given(rails: Option<Ask>, order: Order) -> Option<Order>
-    ensures { result ≡ unless_given rails order }
+/// An order, unless an option was given that it hasn't.
+fn unless(given: bool, order: Order) -> Option<Order>
+    ensures { result ≡ unless given order }
 {
-    match rails {
-        None => Some(order),
-        Some(_) => None,
+    if given { None } else { Some(order) }
+}
+
+/// The order of the words after `workload`.
+fn workload_of(words: &[String]) -> Option<Order>
+    ensures { result ≡ workload_of (map string_bytes words.now) }
+{
+    match words {
+        [word] => workload_with(plain_decimal(word.as_str().as_bytes())?),
+        _ => None,
+    }
+}
+
+/// The order of a counter of so many bits.
+fn workload_with(bits: u32) -> Option<Order>
+    ensures { result ≡ workload_with (Some bits) }
+{
+    if 0 < bits && bits <= 4096 {
+        Some(Order::Workload(bits))
+    } else {
+        None
     }
 }
 
@@ -104,6 +185,37 @@ fn ask_of(word: &str) -> Option<Ask>
         "p" => Some(Ask::Pos),
         "n" => Some(Ask::Neg),
         "both" => Some(Ask::Both),
+        _ => None,
+    }
+}
+
+/// The schedule that a word asks for.
+fn schedule_of(word: &str) -> Option<Schedule>
+    ensures { result ≡ schedule_of word.now }
+{
+    match word {
+        "first" => Some(Schedule::Order(DeliveryOrder::First)),
+        "last" => Some(Schedule::Order(DeliveryOrder::Last)),
+        "script" => Some(Schedule::Script),
+        _ => mixed_of(word.as_bytes()),
+    }
+}
+
+/// The mixed order of a word: `mix:` and a plain decimal.
+fn mixed_of(word: &[u8]) -> Option<Schedule>
+    ensures { result ≡ mixed_of word.now }
+{
+    let number = plain_decimal(word.strip_prefix(b"mix:")?)?;
+    Some(Schedule::Order(DeliveryOrder::Mix(number)))
+}
+
+/// Whether a word asks for the deliveries.
+fn trace_of(word: &str) -> Option<bool>
+    ensures { result ≡ trace_of word.now }
+{
+    match word {
+        "yes" => Some(true),
+        "no" => Some(false),
         _ => None,
     }
 }

@@ -1,15 +1,18 @@
 //! The reader of sources, whose kind their first four bytes tell.
 
-ghost use Rattle.std.specs.Prelude.{◌≡◌, ◌≤◌, ◌-◌, ◌++◌, [], ℕ, List, take, length};
+ghost use Rattle.std.specs.Prelude.{◌≡◌, ◌≤◌, ◌-◌, ◌++◌, [], ℕ, List, take, length, nat_le};
 ghost use Rattle.source_machine.specs.declared.unset.Unset.TheVariants.{Refuse};
 ghost use Rattle.aiger_reader.specs.Sources.{early};
 ghost use Rattle.aiger_reader.specs.Readings.{Answers, IsReading};
-ghost use Rattle.xsfq_cli.specs.Reading.{HasRead, due};
+ghost use Rattle.blif_reader.specs.Sources as blif_source;
+ghost use Rattle.blif_reader.specs.Readings as blif_reading;
+ghost use Rattle.xsfq_cli.specs.Reading.{HasRead, due, unheld, IsBlifAnswer, IsBlifVerdict, JudgesBlif};
 ghost use Rattle.xsfq_cli.specs.Sources.{begins_aiger};
 
 use crate::consuming::Consumer;
-use crate::outcomes::Outcome;
 use aiger_reader::{AigerReader, AigerRefusal};
+use blif_reader::{BlifReader, BlifRefusal};
+use run_outcomes::Outcome;
 use source_machine::Machine;
 use std::alloc::Global;
 use std::marker::Model;
@@ -49,6 +52,13 @@ impl Head {
         &self.bytes[..self.count]
     }
 
+    /// Whether four bytes came.
+    fn is_full(&self) -> bool
+        ensures { result ≡ nat_le 4 (length self.now) }
+    {
+        4 <= self.bytes().len()
+    }
+
     /// Takes the bytes of a piece that belong to the first four, and answers how many these are.
     fn take(&mut self, piece: &[u8]) -> usize
         ensures head { self.new ≡ take 4 (self.old ++ piece.now) }
@@ -68,22 +78,25 @@ impl Head {
 pub(crate) struct SourceReader {
     head: Head,
     aiger: AigerReader,
+    blif: BlifReader,
 }
 
 impl SourceReader {
     /// Before the first byte.
     pub(crate) fn new(alloc: Global) -> SourceReader
-        ensures { HasRead [] result.head result.aiger }
+        ensures { HasRead [] result.head result.aiger result.blif }
     {
         SourceReader {
             head: Head::new(),
             aiger: AigerReader::new(alloc),
+            blif: BlifReader::new(alloc),
         }
     }
 
     /// Feeds a piece to AIGER's reader, and before it the four bytes that were held back while there were fewer.
     fn feed_aiger(&mut self, held: usize, piece: &[u8]) -> Result<(), AigerRefusal>
         ensures head { self.new.head ≡ self.old.head }
+        ensures blif { self.new.blif ≡ self.old.blif }
         ensures read { (text : List ℕ) → IsReading Refuse text self.old.aiger → IsReading Refuse (text ++ (due held self.old.head ++ piece.now)) self.new.aiger }
         ensures early { (text : List ℕ) → IsReading Refuse text self.old.aiger → Answers result (early Refuse (text ++ (due held self.old.head ++ piece.now))) }
     {
@@ -91,6 +104,20 @@ impl SourceReader {
             feed_both(&mut self.aiger, self.head.bytes(), piece)
         } else {
             self.aiger.feed(piece)
+        }
+    }
+
+    /// The same of BLIF's reader.
+    fn feed_blif(&mut self, held: usize, piece: &[u8]) -> Result<(), BlifRefusal>
+        ensures head { self.new.head ≡ self.old.head }
+        ensures aiger { self.new.aiger ≡ self.old.aiger }
+        ensures read { (text : List ℕ) → blif_reading.IsReading Refuse text self.old.blif → blif_reading.IsReading Refuse (text ++ (due held self.old.head ++ piece.now)) self.new.blif }
+        ensures early { (text : List ℕ) → blif_reading.IsReading Refuse text self.old.blif → blif_reading.Answers result (blif_source.early Refuse (text ++ (due held self.old.head ++ piece.now))) }
+    {
+        if held < 4 {
+            feed_both_blif(&mut self.blif, self.head.bytes(), piece)
+        } else {
+            self.blif.feed(piece)
         }
     }
 }
@@ -111,6 +138,55 @@ fn feed_both(aiger: &mut AigerReader, first: &[u8], second: &[u8]) -> Result<(),
     aiger.feed(second)
 }
 
+/// The same of BLIF's reader.
+fn feed_both_blif(blif: &mut BlifReader, first: &[u8], second: &[u8]) -> Result<(), BlifRefusal>
+    ensures read { (text : List ℕ) → blif_reading.IsReading Refuse text blif.old → blif_reading.IsReading Refuse (text ++ (first.now ++ second.now)) blif.new }
+    ensures early { (text : List ℕ) → blif_reading.IsReading Refuse text blif.old → blif_reading.Answers result (blif_source.early Refuse (text ++ (first.now ++ second.now))) }
+{
+    let _ = blif.feed(first); // what it shows stays shown
+    blif.feed(second)
+}
+
+/// The verdict of a BLIF source whose last bytes were held back.
+#[tactic(auto, using(crate::proofs::BlifReading::held_judged))]
+fn finish_held(held: &[u8], blif: BlifReader) -> Result<Machine, BlifRefusal>
+    ensures { (text : List ℕ) → blif_reading.IsReading Refuse text blif → JudgesBlif (text ++ held.now) result }
+{
+    let mut blif = blif;
+    let _ = blif.feed(held); // what it shows is the verdict
+    blif.finish()
+}
+
+/// The verdict of a BLIF source, of which the reader has no byte where there are fewer than four.
+fn finish_blif(head: &Head, blif: BlifReader) -> Result<Machine, BlifRefusal>
+    ensures { (text : List ℕ) → blif_reading.IsReading Refuse (unheld text) blif → take 4 text ≡ head.now → JudgesBlif text result }
+{
+    if !head.is_full() {
+        return finish_held(head.bytes(), blif);
+    }
+    blif.finish()
+}
+
+/// The outcome of what BLIF's reader answers.
+fn blif_answer(answer: Result<(), BlifRefusal>) -> Result<(), Outcome>
+    ensures { IsBlifAnswer answer result }
+{
+    match answer {
+        Ok(()) => Ok(()),
+        Err(refusal) => Err(Outcome::from(refusal)),
+    }
+}
+
+/// The same of its verdict.
+fn blif_verdict(verdict: Result<Machine, BlifRefusal>) -> Result<Machine, Outcome>
+    ensures { IsBlifVerdict verdict result }
+{
+    match verdict {
+        Ok(machine) => Ok(machine),
+        Err(refusal) => Err(Outcome::from(refusal)),
+    }
+}
+
 impl Consumer for SourceReader {
     ghost use Rattle.pulse_ids.specs.Quantities.{greatest_of};
     ghost use Rattle.pulse_ids.specs.declared.quantities.Quantity.TheVariants.{SourceBytes};
@@ -121,7 +197,7 @@ impl Consumer for SourceReader {
 
     type Whole = Machine;
 
-    ghost reads = { λ text reader. HasRead text reader.head reader.aiger };
+    ghost reads = { λ text reader. HasRead text reader.head reader.aiger reader.blif };
 
     ghost shows = { source_shown };
 
@@ -132,11 +208,11 @@ impl Consumer for SourceReader {
     fn feed(&mut self, piece: &[u8]) -> Result<(), Outcome> {
         let held = self.head.bytes().len();
         let count = self.head.take(piece);
-        if self.head.bytes().len() < 4 {
+        if !self.head.is_full() {
             return Ok(());
         }
         if !begins_aiger(self.head.bytes()) {
-            return Err(Outcome::NotBuilt);
+            return blif_answer(self.feed_blif(held, &piece[count..]));
         }
         match self.feed_aiger(held, &piece[count..]) {
             Ok(()) => Ok(()),
@@ -146,7 +222,8 @@ impl Consumer for SourceReader {
 
     fn finish(self) -> Result<Machine, Outcome> {
         if !begins_aiger(self.head.bytes()) {
-            return Err(Outcome::NotBuilt);
+            let blif = self.blif;
+            return blif_verdict(finish_blif(&self.head, blif));
         }
         match self.aiger.finish() {
             Ok(machine) => Ok(machine),

@@ -1,8 +1,8 @@
 -- The verdict of a source that has ended.
-use Rattle.std.proofs.Common.{◌≡◌, sym, subst, Result, Ok, Err}
+use Rattle.std.proofs.Common.{sym, subst, Result, Ok, Err}
 use Rattle.std.proofs.lemmas.Result.{err_from_is_err_and, IfOk-weaker, IfErr-weaker}
 use Rattle.blif_reader.specs.declared.refusals.BlifRefusal.{BlifRefusal}
-use Rattle.blif_reader.specs.Sources.{PlainSource, judgement, IsVerdictOf}
+use Rattle.blif_reader.specs.Sources.{PlainSource, IsVerdictOf}
 use Rattle.blif_reader.specs.Readings.{OrMemory}
 use Rattle.blif_reader.proofs.Judgements.{stopped_is, last_is, whole_is, going}
 use Rattle.blif_reader.proofs.finishing.finished.Goals as goal

@@ -12,12 +12,14 @@ use Rattle.blif_reader.proofs.finishing.read_last.Goals as goal
 pub returns-in-None-clause-ok : goal.returns-in-None-clause-ok
 returns-in-None-clause-ok c =
     subst (λ (r : Result BlifState BlifRefusal). OnOk c.read_begun.result (r ≡ Ok c.read_begun.new.state))
-    (sym (ap (λ (ls : List (List ℕ)). lines_read c.args.unset (Ok c.args.state.now) (lines_closed ls (next_number c.args.lines.now) (begun_line c.args.logical.now))) c.in-None.ensures.none)) c.read_begun.ensures.ok
+    (sym (ap (λ (ls : List (List ℕ)). lines_read c.args.unset (Ok c.args.state.now)
+    (lines_closed ls (next_number c.args.lines.now) (begun_line c.args.logical.now))) c.in-None.ensures.none)) c.read_begun.ensures.ok
 
 pub returns-in-None-clause-err : goal.returns-in-None-clause-err
 returns-in-None-clause-err c =
     subst (λ (r : Result BlifState BlifRefusal). IfErr c.read_begun.result (λ refusal. OrMemory refusal (r ≡ Err refusal)))
-    (sym (ap (λ (ls : List (List ℕ)). lines_read c.args.unset (Ok c.args.state.now) (lines_closed ls (next_number c.args.lines.now) (begun_line c.args.logical.now))) c.in-None.ensures.none)) c.read_begun.ensures.err
+    (sym (ap (λ (ls : List (List ℕ)). lines_read c.args.unset (Ok c.args.state.now)
+    (lines_closed ls (next_number c.args.lines.now) (begun_line c.args.logical.now))) c.in-None.ensures.none)) c.read_begun.ensures.err
 
 pub returns-in-Some-clause-ok : goal.returns-in-Some-clause-ok
 returns-in-Some-clause-ok c =

@@ -6,4 +6,4 @@ use Rattle.blif_reader.proofs.rows.read_row.Given as goal
 
 abbrev pub invariant-loop-place : goal.invariant-loop-place
 invariant-loop-place l =
-    map literal_of l.row ++ literals_of (drop l.place (map (λ net. net.number) l.columns)) (drop l.place l.marks) ≡ literals_of (map (λ net. net.number) l.columns) l.marks
+    map literal_of l.cube ++ literals_of (drop l.place (map (λ net. net.number) l.columns)) (drop l.place l.marks) ≡ literals_of (map (λ net. net.number) l.columns) l.marks

@@ -7,7 +7,7 @@ use Rattle.pulse_ids.proofs.CallerLemmas.{IsIn-place}
 use Rattle.cell_netlist.specs.Netlists.{PlainNetlist}
 use Rattle.pulse_traces.specs.Rooms.{HasRooms, ShowsCycle, cycle_in}
 use Rattle.pulse_traces.proofs.Lists.{take-all}
-use Rattle.pulse_traces.proofs.OrderCycles.{cycle-as, made-more, made-failed}
+use Rattle.pulse_traces.proofs.OrderCycles.{cycle-as, written-none, written-more, written-failed}
 use Rattle.pulse_traces.proofs.Writing.{whole-grown, failed-prefix, failed-text, text-shown}
 use Rattle.pulse_traces.proofs.cycles.write_cycles.Goals as goal
 
@@ -35,7 +35,8 @@ returns-in_err-write_room g c =
     let text = text-shown rails c.args.trace number c.vector.result.now room shows in
     let took = subst (λ t. TookPrefix now new t) text (failed-prefix now new _ _ _ _ (err_so c.in_err-write_room.was) c.write_room.ensures) in
     let net = c.make_cycle-next.ensures.net ∙ c.cycles.invariant.net in
-    let all = made-failed c.args.order c.args.trace world c.args.vectors.now.vectors old number c.cycles.step c.cycles.world after cycle now new c.cycles.invariant.so c.vector.ensures made
+    let so = c.cycles.invariant.so in
+    let all = written-failed c.args.order world c.args.vectors.now.vectors number c.cycles.step c.cycles.world after cycle so.so_far c.vector.ensures made c.args.trace old now new so.grown
     c.from_residual.result c.from_residual.ensures.0 c.cycles_of_orders.ensures.cycles c.make_cycle-next.ensures.between net c.requires.width took in
     record {
       cycles = all.0;
@@ -44,6 +45,16 @@ returns-in_err-write_room g c =
       made = all.3;
       wrote = failed-text old now new _ _ _ _ _ _ _ (err_so c.in_err-write_room.was) c.from_residual.ensures.0 c.cycles.invariant.calm c.write_room.ensures all.4;
     }
+
+pub cycles-init : goal.cycles-init
+cycles-init g c = record {
+  so = written-none c.args.order c.args.trace c.args.world.now c.args.vectors.now.vectors (g.K.Sink.taken c.args.out.now);
+  calm = search rules;
+  between = c.requires.between;
+  net = search rules;
+  room = c.requires.room;
+  small = omega arith;
+}
 
 pub cycles-preserved : goal.cycles-preserved
 cycles-preserved g c =
@@ -60,8 +71,9 @@ cycles-preserved g c =
     let shows = subst (λ (n : PlainNetlist). ShowsCycle n.output_rails room) c.cycles.invariant.net c.make_cycle-next.ensures.shows in
     let text = text-shown rails c.args.trace number c.vector.result.now room shows in
     let grown = subst (λ t. Appends now new t) text (whole-grown now new _ _ _ _ (ok_so c.in_ok-write_room.was) c.write_room.ensures) in
+    let so = c.cycles.invariant.so in
     record {
-      so = made-more c.args.order c.args.trace world c.args.vectors.now.vectors old number c.cycles.step c.cycles.world after cycle now new c.cycles.invariant.so c.vector.ensures made
+      so = written-more c.args.order world c.args.vectors.now.vectors number c.cycles.step c.cycles.world after cycle so.so_far c.vector.ensures made c.args.trace old now new so.grown
           c.make_cycle-next.result c.make_cycle-next.ensures.next grown;
       calm = search rules;
       between = c.make_cycle-next.ensures.between;
@@ -72,12 +84,12 @@ cycles-preserved g c =
 
 pub returns : goal.returns
 returns g c =
-    let so = c.cycles.invariant.so in
+    let so = c.cycles.invariant.so.so_far in
     let most = c.len-number-end.ensures.count in
     record {
       cycles = so.cycles;
       after = c.cycles.world;
       of_vectors = so.of_vectors ∙ take-all c.args.vectors.now.vectors c.cycles.number (omega arith);
       made = so.made;
-      wrote = record { whole = so.grown; prefix = tt; cause = record { later = let l = c.cycles.invariant.calm in omega arith; failed = tt; kept = c.cycles.invariant.calm } };
+      wrote = record { whole = c.cycles.invariant.so.grown; prefix = tt; cause = record { later = let l = c.cycles.invariant.calm in omega arith; failed = tt; kept = c.cycles.invariant.calm } };
     }

@@ -1,12 +1,12 @@
 use Rattle.std.proofs.Common.{◌≡◌, ◌≤◌, ◌*◌, ◌^◌}
 use Rattle.schedule_replay.specs.Orders.{IsBetween}
 use Rattle.pulse_traces.specs.Rooms.{HasRooms}
-use Rattle.pulse_traces.proofs.OrderCycles.{MadeSo}
+use Rattle.pulse_traces.proofs.OrderCycles.{WrittenSo}
 use Rattle.pulse_traces.proofs.cycles.write_cycles.Given as goal
 
 abbrev pub invariant-cycles : goal.invariant-cycles
 invariant-cycles g l = record {
-  so : MadeSo l.fn.order l.fn.trace l.fn.world l.fn.vectors.vectors (g.K.Sink.taken l.fn.out) l.number l.step l.world (g.K.Sink.taken l.out);
+  so : WrittenSo l.fn.order l.fn.trace l.fn.world l.fn.vectors.vectors (g.K.Sink.taken l.fn.out) l.number l.step l.world (g.K.Sink.taken l.out);
   calm : g.K.Sink.faults l.out ≡ g.K.Sink.faults l.fn.out;
   between : IsBetween l.world;
   net : l.world.net ≡ l.fn.world.net;

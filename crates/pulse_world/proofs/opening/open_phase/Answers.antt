@@ -5,12 +5,13 @@ use Rattle.pulse_world.proofs.opening.open_phase.Goals as goal
 
 pub pulse_rails-requires : goal.pulse_rails-requires
 pulse_rails-requires c = rw c.input_rails.ensures
-    (room-split c.args.pending.now (rail_pulses c.args.phase c.args.vector.now c.args.lines.now.input_rails) (clock_pulses c.args.lines.now.cells c.args.cell_states.now) c.requires.room).0
+    (room-split c.args.pending.now (rail_pulses c.args.phase c.args.vector.now c.args.lines.now.input_rails)
+    (clock_pulses c.args.cell_states.now.cells c.args.cell_states.now.states) c.requires).0
 
-pub clock_cells-requires-clause-room : goal.clock_cells-requires-clause-room
-clock_cells-requires-clause-room c =
+pub clock_cells-requires : goal.clock_cells-requires
+clock_cells-requires c =
     let rails = rail_pulses c.args.phase c.args.vector.now c.args.lines.now.input_rails in
-    let cells = clock_pulses c.args.lines.now.cells c.args.cell_states.now in
-    let parts = room-split c.args.pending.now rails cells c.requires.room in
+    let cells = clock_pulses c.args.cell_states.now.cells c.args.cell_states.now.states in
+    let parts = room-split c.args.pending.now rails cells c.requires in
     let queue = c.pulse_rails.ensures ∙ ap (λ rs. record c.args.pending.now { wires = c.args.pending.now.wires ++ rail_pulses c.args.phase c.args.vector.now rs }) c.input_rails.ensures in
-    rw (c.cells.ensures, queue) parts.1
+    rw queue parts.1

@@ -4,4 +4,4 @@ use Rattle.cell_netlist.specs.declared.kinds.CellState.{CellState}
 use Rattle.pulse_world.proofs.worlds.do_rest.Given as goal
 
 abbrev pub invariant-loop-number : goal.invariant-loop-number
-invariant-loop-number l = (at : ℕ) (its : CellState) → at < l.number → slice_get l.cell_states at ≡ Some its → its.held ≡ Rest
+invariant-loop-number l = (at : ℕ) (its : CellState) → at < l.number → slice_get l.cell_states.states at ≡ Some its → its.held ≡ Rest

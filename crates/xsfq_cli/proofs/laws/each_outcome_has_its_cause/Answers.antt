@@ -1,5 +1,6 @@
 -- The laws of the table.
-use Rattle.xsfq_cli.proofs.TableLaws.{accepted_law, bounded_law, only_refused_law, read_fault_law, refused_law, unwritten_law, usage_law, write_fault_law}
+use Rattle.xsfq_cli.proofs.BoundedLaws.{bounded_law}
+use Rattle.xsfq_cli.proofs.TableLaws.{accepted_law, only_refused_law, read_fault_law, refused_law, unread_law, unwritten_law, usage_law, write_fault_law}
 use Rattle.xsfq_cli.proofs.laws.each_outcome_has_its_cause.Goals as goal
 
 pub returns-clause-usage : goal.returns-clause-usage
@@ -25,3 +26,6 @@ returns-clause-unwritten c = unwritten_law
 
 pub returns-clause-bounded : goal.returns-clause-bounded
 returns-clause-bounded c = bounded_law
+
+pub returns-clause-unread : goal.returns-clause-unread
+returns-clause-unread c = unread_law

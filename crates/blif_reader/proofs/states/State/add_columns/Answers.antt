@@ -1,5 +1,5 @@
 -- A name that is refused refuses the line.
-use Rattle.std.proofs.Common.{◌≡◌, ◌∷◌, ℕ, List, Result, Ok, ap, subst, sym, ◌∙◌}
+use Rattle.std.proofs.Common.{Result, Ok, ap, subst, sym, ◌∙◌}
 use Rattle.std.proofs.lemmas.Result.{err_from_is_err_and}
 use Rattle.word_scan.specs.Reading.{read_on}
 use Rattle.word_scan.specs.Logical.{dark_words}
@@ -16,4 +16,5 @@ returns-in_err-add_column-clause-err c =
     let refusal = c.in_err-add_column.field-0.0 in
     let state = c.loop-word.self in
     let same = sym (ap (read_on column_read (Ok state)) c.in-Some.ensures.found) ∙ c.loop-word.invariant in
-    rw (p.1, p.2) (subst (λ (r : Result BlifState LineRefusal). FailsBy refusal r) same (word_fails column_read state c.in-Some.word.now (dark_words c.in-Some.after.now) refusal c.in_err-add_column.ensures.err))
+    rw (p.1, p.2) (subst (λ (r : Result BlifState LineRefusal). FailsBy refusal r) same
+    (word_fails column_read state c.in-Some.word.now (dark_words c.in-Some.after.now) refusal c.in_err-add_column.ensures.err))

@@ -1,0 +1,2 @@
+-- The words of counters' texts.
+pub mod Sources

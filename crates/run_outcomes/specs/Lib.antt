@@ -1,0 +1,4 @@
+-- The definitions of this crate.
+pub mod Notes
+pub mod Outcomes
+pub mod Pieces

@@ -1,0 +1,2 @@
+-- What tests know of a reader.
+pub mod Taken

@@ -1,6 +1,0 @@
--- The number and the name of what is counted.
-use Rattle.xsfq_cli.proofs.Noting.{limit_text, same_text}
-use Rattle.xsfq_cli.proofs.notes.write_limit.Goals as goal
-
-pub returns : goal.returns
-returns g c = same_text _ _ _ _ _ _ _ (limit_text c.greatest.ensures c.quantity_piece.ensures) c.write_pieces.ensures

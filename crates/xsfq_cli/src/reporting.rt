@@ -1,0 +1,59 @@
+//! `report`: what a sound netlist costs and how deep it is.
+
+ghost use Rattle.std.specs.Prelude.{IsTrue, OnOk};
+ghost use Rattle.byte_ports.specs.Writing.{WritesText};
+ghost use Rattle.junction_report.specs.Texts.{report_text};
+
+use crate::commands::Command;
+use crate::netlists::read_sound;
+use byte_ports::{Failed, Sink, Source};
+use cell_netlist::equation_runs;
+use junction_report::{Report, report, write_report};
+use netlist_reader::texts_are_read;
+use pulse_world::every_order;
+use run_outcomes::Outcome;
+use std::alloc::Global;
+
+/// Reports on the netlist of an input, where it is sound.
+#[derive(Clone, Copy, Drop)]
+pub(crate) struct MakeReport;
+
+/// Writes a report whole and flushes.
+fn emit<K: Sink>(report: &Report, output: &mut K) -> Result<(), Failed>
+    ensures written { WritesText (K.taken output.old) (K.taken output.new) (K.faults output.old) (K.faults output.new) result (report_text report.now) }
+    ensures flushed { OnOk result (IsTrue (K.flushed output.new)) }
+{
+    write_report(report, output)?;
+    output.flush()
+}
+
+impl Command for MakeReport {
+    ghost use Rattle.std.specs.Prelude.{◌≡◌, ⊤};
+    ghost use Rattle.junction_report.specs.Texts.{report_text};
+    ghost use Rattle.xsfq_cli.specs.declared.orders.Order.TheVariants as orders;
+    ghost use Rattle.run_outcomes.specs.declared.outcomes.Outcome.TheVariants as outcomes;
+
+    type Task = Report;
+
+    ghost order = { λ _. orders.Report };
+
+    ghost ready = { λ _. ⊤ };
+
+    ghost tells = { λ report text ending. (text ≡ report_text report) × (ending ≡ outcomes.Done) };
+
+    fn prepare<S: Source>(self, alloc: Global, input: &mut S) -> Result<Report, Outcome> {
+        // The laws that the clause rests on; these calls do nothing.
+        texts_are_read();
+        equation_runs();
+        every_order();
+        let net = read_sound(alloc, input)?;
+        let _ = net.net().wires();
+        let told = report(alloc, &net)?;
+        Ok(told)
+    }
+
+    fn write<K: Sink>(task: Report, output: &mut K) -> Result<Outcome, Failed> {
+        emit(&task, output)?;
+        Ok(Outcome::Done)
+    }
+}

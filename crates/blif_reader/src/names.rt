@@ -9,14 +9,14 @@ use std::collections::BTreeMap;
 use std::marker::Model;
 
 /// Names numbered from 1 by first appearance, at most 2^19 of them. A name is looked up in time logarithmic in their
-/// number, and in constant time where it was looked up lately.
+/// number, and by `recall` in constant time where no other name has displaced its note.
 #[derive(Debug, Drop)]
 pub struct Names {
     alloc: Global,
     names: Vec<Name>,
     numbers: BTreeMap<Vec<u8>, u32>,
-    // For each remainder of hashes the number of the last name that was looked up with it, or 0. It is a short way, and
-    // never the only one: what names a stranger gives can make it useless, and no more.
+    // Notes: for each remainder of hashes the number of the last name that was added or looked up with it, or 0. They are a
+    // short way, and never the only one: the names that a stranger gives can make them useless, and no more.
     lately: Vec<u32>,
 }
 
@@ -71,7 +71,7 @@ impl Names {
         self.look_up(name)
     }
 
-    /// The same, by a short way where the name was looked up lately.
+    /// The same, first by the note at the name's place.
     #[tactic(auto, using(crate::proofs::Numbers::number_small))]
     pub(crate) fn recall(&mut self, name: &[u8]) -> Option<u32>
         ensures found { result ≡ number_in self.old name.now }
@@ -150,7 +150,7 @@ fn hash_of(bytes: &[u8]) -> u32 {
     hash
 }
 
-/// Where the number of a name is noted, if there is room.
+/// Where the number of a name is noted, if there are places.
 fn place_of(lately: &[u32], name: &[u8]) -> Option<usize>
     ensures { IfSome result (λ place. place < length lately.now) }
 {

@@ -86,8 +86,19 @@ impl OpenEquation {
         ensures { OnOk result (self.new ≡ with_row self.old bit marks.now) }
     {
         let row = read_row(alloc, self.columns.as_slice(), marks)?;
+        self.make_room()?;
         self.equation.on = bit;
         self.equation.add_row(row)
+    }
+
+    // Makes room for the first row and no more: most equations have one.
+    fn make_room(&mut self) -> Result<(), NoMemory>
+        ensures { self.new ≡ self.old }
+    {
+        if self.equation.rows.is_empty() {
+            self.equation.rows.reserve_exact(1)?;
+        }
+        Ok(())
     }
 
     /// The equation, to which no further rows come.

@@ -7,8 +7,8 @@ ghost use Rattle.junction_report.specs.Texts.{parts_of, line_text, sizes_text, p
 
 use crate::reports::Report;
 use byte_ports::{Failed, Sink, write_all};
-use itoa::Buffer;
 use pulse_ids::{CellId, Ident};
+use text_pieces::{Piece, write_pieces};
 
 /// A line of a word and a number.
 #[derive(Clone, Copy, Debug)]
@@ -23,26 +23,17 @@ fn numbered(word: &[u8], number: u32) -> Line<'_>
     Line { word, number }
 }
 
-fn write_number<K: Sink>(out: &mut K, number: u32) -> Result<(), Failed>
-    ensures { WritesText (K.taken out.old) (K.taken out.new) (K.faults out.old) (K.faults out.new) result (decimal number) }
-{
-    write_all(out, Buffer::new().format(number).as_bytes())
-}
-
-fn write_spaced<K: Sink>(out: &mut K, number: u32) -> Result<(), Failed>
-    ensures { WritesText (K.taken out.old) (K.taken out.new) (K.faults out.old) (K.faults out.new) result (spaced number) }
-{
-    write_all(out, b" ")?;
-    write_number(out, number)
-}
-
 /// One line: the word, a space, the number and LF.
 fn write_line<K: Sink>(out: &mut K, line: Line<'_>) -> Result<(), Failed>
     ensures { WritesText (K.taken out.old) (K.taken out.new) (K.faults out.old) (K.faults out.new) result (line_text line.entry) }
 {
-    write_all(out, line.word)?;
-    write_spaced(out, line.number)?;
-    write_all(out, b"\n")
+    let pieces = [
+        Piece::Text(line.word),
+        Piece::Text(b" "),
+        Piece::Number(line.number as u64),
+        Piece::Text(b"\n"),
+    ];
+    write_pieces(&pieces, out)
 }
 
 fn write_lines<K: Sink>(out: &mut K, lines: &[Line<'_>]) -> Result<(), Failed>
@@ -54,10 +45,14 @@ fn write_lines<K: Sink>(out: &mut K, lines: &[Line<'_>]) -> Result<(), Failed>
     Ok(())
 }
 
+/// A space and the number of a cell.
 fn write_cell<K: Sink>(out: &mut K, cell: CellId) -> Result<(), Failed>
     ensures { WritesText (K.taken out.old) (K.taken out.new) (K.faults out.old) (K.faults out.new) result (spaced cell.number) }
 {
-    write_spaced(out, cell.number())
+    write_pieces(
+        &[Piece::Text(b" "), Piece::Number(cell.number() as u64)],
+        out,
+    )
 }
 
 fn write_cells<K: Sink>(out: &mut K, cells: &[CellId]) -> Result<(), Failed>

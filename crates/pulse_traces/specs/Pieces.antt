@@ -2,14 +2,7 @@
 use Rattle.std.specs.Prelude.{ℕ, ◌++◌, Bool, List, [], ◌∷◌, decimal}
 use Rattle.pulse_ids.specs.Ids.{WireId}
 use Rattle.cell_netlist.specs.Text.{line_of}
-use Rattle.pulse_traces.specs.declared.lines.Piece.{Piece}
-use Rattle.pulse_traces.specs.declared.lines.Piece.TheVariants.{Text, Number}
 use Rattle.pulse_traces.specs.SimulationTexts.{trace_text}
-
--- the bytes of a piece
-abbrev pub piece_text : Piece → List ℕ
-piece_text (Text bytes) = bytes.now
-piece_text (Number number) = decimal number
 
 -- a space and the number of a wire
 abbrev pub spaced_wire : WireId → List ℕ

@@ -102,7 +102,7 @@ pub(crate) fn write_cycles<F: Fn(u64, u64) -> u64 + Choose, K: Sink>(
 {
     cycles_of_orders();
     let mut step = 0u64;
-    'cycles: for number in 0..vectors.len() {
+    for number in 0..vectors.len() {
         let next = make_cycle(world, chooser, step, vectors.vector(number), room);
         write_room(out, trace, number, room)?;
         step = next;

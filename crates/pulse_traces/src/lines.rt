@@ -6,43 +6,20 @@ ghost use Rattle.byte_ports.specs.Writing.{WritesText};
 ghost use Rattle.cell_netlist.specs.Text.{line_of};
 ghost use Rattle.schedule_replay.specs.Logs.{wire_number};
 ghost use Rattle.pulse_traces.specs.SimulationTexts.{deliver_line, trace_text};
-ghost use Rattle.pulse_traces.specs.Pieces.{piece_text, spaced_wire, cycle_of_parts};
+ghost use Rattle.pulse_traces.specs.Pieces.{spaced_wire, cycle_of_parts};
 
 use byte_ports::{Failed, Sink, write_all};
-use itoa::Buffer;
 use pulse_ids::{Ident, WireId};
-
-/// A piece of a line.
-#[derive(Clone, Copy, Debug)]
-pub(crate) enum Piece<'a> {
-    Text(&'a [u8]),
-    Number(u32),
-}
-
-fn write_piece<K: Sink>(out: &mut K, piece: Piece<'_>) -> Result<(), Failed>
-    ensures { WritesText (K.taken out.old) (K.taken out.new) (K.faults out.old) (K.faults out.new) result (piece_text piece.entry) }
-{
-    match piece {
-        Piece::Text(text) => write_all(out, text),
-        Piece::Number(number) => write_all(out, Buffer::new().format(number).as_bytes()),
-    }
-}
-
-/// Writes pieces one after the other.
-fn write_pieces<K: Sink>(out: &mut K, pieces: &[Piece<'_>]) -> Result<(), Failed>
-    ensures { WritesText (K.taken out.old) (K.taken out.new) (K.faults out.old) (K.faults out.new) result (flat_map piece_text pieces.entry.now) }
-{
-    for piece in pieces {
-        write_piece(out, *piece)?;
-    }
-    Ok(())
-}
+use text_pieces::{Piece, write_pieces};
 
 /// Writes a space and the number of a wire.
 fn write_wire<K: Sink>(out: &mut K, wire: WireId) -> Result<(), Failed>
     ensures { WritesText (K.taken out.old) (K.taken out.new) (K.faults out.old) (K.faults out.new) result (spaced_wire wire) }
 {
-    write_pieces(out, &[Piece::Text(b" "), Piece::Number(wire.number())])
+    write_pieces(
+        &[Piece::Text(b" "), Piece::Number(wire.number() as u64)],
+        out,
+    )
 }
 
 /// Writes the numbers of wires, each behind a space.
@@ -101,14 +78,14 @@ fn write_pulses<'a, K: Sink>(
         (line_of (decimal number ∷ excite.now ∷ relax.now ∷ [])) }
 {
     let pieces = [
-        Piece::Number(number),
+        Piece::Number(number as u64),
         Piece::Text(b" "),
         Piece::Text(excite),
         Piece::Text(b" "),
         Piece::Text(relax),
         Piece::Text(b"\n"),
     ];
-    write_pieces(out, &pieces)
+    write_pieces(&pieces, out)
 }
 
 /// What the text of a cycle tells of a phase: the wires that it delivered, and a character for each output rail.

@@ -107,7 +107,7 @@ pub(crate) fn write_scripted<K: Sink>(
     scripts_end();
     deliveries_in_turn();
     moments_of_worlds();
-    'cycles: for number in 0..vectors.len() {
+    for number in 0..vectors.len() {
         let asked = AskedCycle {
             vector: vectors.vector(number),
             excite: vectors.excite(number),

@@ -1,4 +1,3 @@
 -- The definitions of this crate.
 pub mod Notes
 pub mod Outcomes
-pub mod Pieces

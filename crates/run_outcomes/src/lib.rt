@@ -5,9 +5,7 @@
 mod net_notes;
 mod notes;
 mod outcomes;
-mod pieces;
 mod simulation_notes;
 
 pub use notes::write_outcome_line;
 pub use outcomes::Outcome;
-pub use pieces::{Piece, write_numbered, write_pieces};

@@ -5,11 +5,11 @@ ghost use Rattle.byte_ports.specs.Writing.{WritesText};
 ghost use Rattle.run_outcomes.specs.Notes.{net_line, rule_text, unsound_line};
 
 use crate::notes::write_limit;
-use crate::pieces::{Piece, write_numbered, write_pieces};
 use byte_ports::{Failed, Sink, write_all};
 use cell_netlist::{RailLine, Unsound};
 use netlist_reader::NetRefusal;
 use pulse_ids::Ident;
+use text_pieces::{Piece, write_numbered, write_pieces};
 
 /// Writes the line of a refused netlist text.
 pub(crate) fn write_net_refusal<E: Sink>(refusal: NetRefusal, notes: &mut E) -> Result<(), Failed>

@@ -3,17 +3,17 @@
 ghost use Rattle.std.specs.Prelude.{◌≡◌, ◌++◌};
 ghost use Rattle.byte_ports.specs.Writing.{WritesText};
 ghost use Rattle.run_outcomes.specs.Notes.{aiger_text, blif_line, blif_text, fault_line, limit_line, note_of, place_text, quantity_text};
-ghost use Rattle.run_outcomes.specs.Pieces.{piece_text};
+ghost use Rattle.text_pieces.specs.Pieces.{piece_text};
 
 use crate::net_notes::{write_net_refusal, write_unsound};
 use crate::outcomes::Outcome;
-use crate::pieces::{Piece, write_pieces};
 use crate::simulation_notes::{write_script_fault, write_vector_refusal};
 use aiger_reader::{AigerCause, AigerFault};
 use blif_reader::{BlifCause, BlifFault};
 use byte_ports::{Failed, Sink, write_all};
 use pulse_ids::Quantity;
 use source_machine::Place;
+use text_pieces::{Piece, write_pieces};
 
 /// Writes the line of an outcome with its line feed, and nothing for `Done`. It takes no memory, and does not flush.
 ///

@@ -3,14 +3,14 @@
 ghost use Rattle.std.specs.Prelude.{◌≡◌, ◌++◌};
 ghost use Rattle.byte_ports.specs.Writing.{WritesText};
 ghost use Rattle.run_outcomes.specs.Notes.{phase_text, script_line, script_text, vector_line};
-ghost use Rattle.run_outcomes.specs.Pieces.{piece_text};
+ghost use Rattle.text_pieces.specs.Pieces.{piece_text};
 
 use crate::notes::write_limit;
-use crate::pieces::{Piece, write_numbered, write_pieces};
 use byte_ports::{Failed, Sink, write_all};
 use cell_netlist::Phase;
 use pulse_ids::Ident;
 use schedule_replay::{ScriptFault, VectorRefusal};
+use text_pieces::{Piece, write_numbered, write_pieces};
 
 /// Writes the line of a refused text of vectors.
 pub(crate) fn write_vector_refusal<E: Sink>(

@@ -1,7 +1,8 @@
 -- Items that are added one after the other, as long as each is there.
 use Rattle.std.proofs.Common.{◌≡◌, Bool, true, false, cond, List, [], ◌∷◌, ◌++◌, Option, Some, None, refl, sym, ap, ◌∙◌, append_assoc, append-nil}
 use Rattle.std.specs.Prelude.{option_map, Result, Ok, Err, IfOk}
-use Rattle.schedule_replay.specs.FlatLists.{PlainLists, AddsItem, Adds, Keeps}
+use Rattle.flat_lists.specs.FlatLists.{PlainLists}
+use Rattle.schedule_replay.specs.AddedItems.{AddsItem, Adds, AddsList}
 use Rattle.schedule_replay.specs.VectorLines.{each}
 
 module _ {X Y : Type 0} (f : X → Option Y) where
@@ -81,10 +82,10 @@ nothing_yet f xs first = record { lists = refl; read = refl }
 
 -- a list that was added and ended
 pub ended : {Y : Type 0} (o : Option (List Y)) (added : Bool) (old mid new : PlainLists Y) → added ≡ true → old.begun ≡ [] → Adds added o old mid
-    → new ≡ record { lists = mid.lists ++ mid.begun ∷ []; begun = [] } → Keeps true o old new
+    → new ≡ record { lists = mid.lists ++ mid.begun ∷ []; begun = [] } → AddsList true o old new
 ended None added old mid new is none h e = let f : true ≡ false = sym is ∙ h in absurd cc
 ended (Some ys) added old mid new is none (_, h) e = (refl, e ∙ (rw h (rw none refl)))
 
-pub not_ended : {Y : Type 0} (o : Option (List Y)) (added : Bool) (old mid new : PlainLists Y) → added ≡ false → Adds added o old mid → Keeps false o old new
+pub not_ended : {Y : Type 0} (o : Option (List Y)) (added : Bool) (old mid new : PlainLists Y) → added ≡ false → Adds added o old mid → AddsList false o old new
 not_ended None added old mid new is h = refl
 not_ended (Some ys) added old mid new is (h, _) = let f : true ≡ false = sym h ∙ is in absurd cc

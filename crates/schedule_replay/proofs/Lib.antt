@@ -3,7 +3,6 @@ pub mod Scripts
 pub mod Deliverable
 pub mod OneList
 pub mod CyclesThere
-pub mod FlatLists
 pub mod Adding
 pub mod Spaces
 pub mod Tracking

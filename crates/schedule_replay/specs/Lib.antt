@@ -4,7 +4,7 @@ pub mod Logs
 pub mod Settling
 pub mod Replaying
 pub mod Orders
-pub mod FlatLists
+pub mod AddedItems
 pub mod PlainVectors
 pub mod VectorLines
 pub mod VectorTexts

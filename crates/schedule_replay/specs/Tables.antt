@@ -10,7 +10,7 @@ use Rattle.schedule_replay.specs.declared.vector_lines.Form.{Form}
 use Rattle.schedule_replay.specs.declared.vector_lines.Due.{Due}
 use Rattle.schedule_replay.specs.declared.vector_lines.Due.TheVariants.{Head, Vector, Excite, Relax, Nothing}
 use Rattle.schedule_replay.specs.declared.tables.Table.{Table}
-use Rattle.schedule_replay.specs.FlatLists.{PlainLists}
+use Rattle.flat_lists.specs.FlatLists.{PlainLists}
 use Rattle.schedule_replay.specs.VectorLines.{vector_of, script_in}
 use Rattle.schedule_replay.specs.VectorTexts.{due_after, vectors_in, scripts_in}
 

@@ -2,7 +2,6 @@
 #![tactic(auto)]
 
 mod choosers;
-mod flat_lists;
 mod laws;
 mod logs;
 mod pieces;

@@ -38,7 +38,7 @@ pub fn replay(world: &mut World<'_>, script: &[WireId]) -> Result<(), ScriptFaul
 {
     deliveries_in_turn();
     let _ = world.phase();
-    'script: for at in 0..script.len() {
+    for at in 0..script.len() {
         let wire = script[at];
         if !world.deliver(wire) {
             return Err(ScriptFault::NotPending {

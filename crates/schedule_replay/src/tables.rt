@@ -8,9 +8,9 @@ ghost use Rattle.schedule_replay.specs.VectorLines.{vector_of, script_in};
 ghost use Rattle.schedule_replay.specs.VectorTexts.{end_refusal};
 ghost use Rattle.schedule_replay.specs.Tables.{first_table, table_bad, passed_by, after_vector, head_read, added_read, vector_read, script_read, line_read, IsBounded, OrMemory};
 
-use crate::flat_lists::FlatLists;
 use crate::refusals::VectorRefusal;
 use crate::vector_lines::{Due, Form, keep_script, keep_vector};
+use flat_lists::FlatLists;
 use pulse_ids::{Quantity, WireId};
 use std::alloc::Global;
 

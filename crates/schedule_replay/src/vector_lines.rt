@@ -2,10 +2,10 @@
 
 ghost use Rattle.std.specs.Prelude.{◌≡◌, ◌∷◌, [], None, IfOk, IfSome, IfNone, codes};
 ghost use Rattle.std.specs.Str.{bytes_eq};
-ghost use Rattle.schedule_replay.specs.FlatLists.{Adds, AddsItem, Keeps};
+ghost use Rattle.schedule_replay.specs.AddedItems.{Adds, AddsItem, AddsList};
 ghost use Rattle.schedule_replay.specs.VectorLines.{bit_of, bits_of, wire_of, wires_of, spaced, vector_of, script_of, script_in};
 
-use crate::flat_lists::FlatLists;
+use flat_lists::FlatLists;
 use pulse_ids::{Ident, NoMemory, WireId};
 use word_scan::{part_at, plain_decimal};
 
@@ -136,7 +136,7 @@ fn push_script(wires: &mut FlatLists<WireId>, line: &[u8]) -> Result<bool, NoMem
 /// Keeps the script that a line is, and answers whether it is one.
 pub(crate) fn keep_script(scripts: &mut FlatLists<WireId>, line: &[u8]) -> Result<bool, NoMemory>
     requires { scripts.old.begun ≡ [] }
-    ensures { IfOk result (λ kept. Keeps kept (script_in line.now) scripts.old scripts.new) }
+    ensures { IfOk result (λ kept. AddsList kept (script_in line.now) scripts.old scripts.new) }
 {
     if !push_script(scripts, line)? {
         return Ok(false);
@@ -152,7 +152,7 @@ pub(crate) fn keep_vector(
     line: &[u8],
 ) -> Result<bool, NoMemory>
     requires { vectors.old.begun ≡ [] }
-    ensures { IfOk result (λ kept. Keeps kept (vector_of inputs line.now) vectors.old vectors.new) }
+    ensures { IfOk result (λ kept. AddsList kept (vector_of inputs line.now) vectors.old vectors.new) }
 {
     match digits_of(inputs, line) {
         None => Ok(false),
@@ -163,7 +163,7 @@ pub(crate) fn keep_vector(
 /// Keeps the vector of digits, and answers whether all are digits.
 fn keep_bits(vectors: &mut FlatLists<bool>, digits: &[u8]) -> Result<bool, NoMemory>
     requires { vectors.old.begun ≡ [] }
-    ensures { IfOk result (λ kept. Keeps kept (bits_of digits.now) vectors.old vectors.new) }
+    ensures { IfOk result (λ kept. AddsList kept (bits_of digits.now) vectors.old vectors.new) }
 {
     if !push_bits(vectors, digits)? {
         return Ok(false);

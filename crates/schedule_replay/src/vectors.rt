@@ -5,10 +5,10 @@ ghost use Rattle.pulse_ids.specs.declared.quantities.Quantity.TheVariants as qua
 ghost use Rattle.pulse_ids.specs.Quantities.{greatest_of};
 ghost use Rattle.schedule_replay.specs.VectorTexts.{said_by};
 
-use crate::flat_lists::FlatLists;
 use crate::refusals::VectorRefusal;
 use crate::tables::Table;
 use crate::vector_lines::Due;
+use flat_lists::FlatLists;
 use pulse_ids::WireId;
 use std::marker::Model;
 

@@ -2,6 +2,6 @@
 mod Adding
 mod Rising
 mod Driving
-mod Founding
+mod WellFounded
 mod BinaryDigits
 mod Counted

@@ -5,7 +5,7 @@ pub mod BlifReading
 pub mod BlifVerdicts
 pub mod BoundedLaws
 pub mod CheckLaws
-pub mod Compiled
+pub mod CompiledSources
 pub mod Emitting
 pub mod Flushing
 pub mod HeadlineLaws

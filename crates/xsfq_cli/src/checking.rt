@@ -10,8 +10,9 @@ use byte_ports::{Failed, Sink, Source};
 use cell_netlist::{Netlist, SoundNet, equation_runs};
 use netlist_reader::texts_are_read;
 use pulse_world::every_order;
-use run_outcomes::{Outcome, write_numbered};
+use run_outcomes::Outcome;
 use std::alloc::Global;
+use text_pieces::write_numbered;
 
 /// Checks whether the netlist of an input is sound.
 #[derive(Clone, Copy, Drop)]

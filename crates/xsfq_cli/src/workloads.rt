@@ -17,9 +17,10 @@ use junction_report::{Report, report, write_sizes};
 use netlist_writer::write_netlist;
 use pulse_ids::NoMemory;
 use pulse_traces::{DeliveryOrder, PulseCounts, Simulation};
-use run_outcomes::{Outcome, Piece, write_pieces};
+use run_outcomes::Outcome;
 use source_machine::{Grounding, Machine, ground};
 use std::alloc::Global;
+use text_pieces::{Piece, write_pieces};
 use workload_circuits::{counter, counters_are_founded};
 
 /// Makes a counter of so many bits, compiles it, simulates it and reports on it.

@@ -5,8 +5,8 @@ use Rattle.pulse_traces.specs.Scripts.{scripted}
 use Rattle.pulse_traces.proofs.ScriptCycles.{ScriptsSo}
 use Rattle.pulse_traces.proofs.scripts.write_scripted.Given as goal
 
-abbrev pub invariant-cycles : goal.invariant-cycles
-invariant-cycles g l = record {
+abbrev pub invariant-loop-number : goal.invariant-loop-number
+invariant-loop-number g l = record {
   so : ScriptsSo l.fn.trace l.fn.world (scripted l.fn.vectors) (g.K.Sink.taken l.fn.out) l.number l.world (g.K.Sink.taken l.out);
   calm : g.K.Sink.faults l.out ≡ g.K.Sink.faults l.fn.out;
   between : IsBetween l.world;

@@ -1,5 +1,5 @@
 -- The pieces of the line.
-use Rattle.run_outcomes.specs.Pieces.{piece_text}
+use Rattle.text_pieces.specs.Pieces.{piece_text}
 use Rattle.run_outcomes.proofs.NoteLines.{same_text, script_line_of}
 use Rattle.run_outcomes.proofs.simulation_notes.write_script_fault.Goals as goal
 

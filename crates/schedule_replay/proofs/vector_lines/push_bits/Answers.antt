@@ -1,7 +1,7 @@
 -- The bits of digits.
 use Rattle.std.proofs.Common.{◌+◌, drop, get_or, subst}
 use Rattle.std.proofs.lemmas.List.{at_drop_more, at_drop_all}
-use Rattle.schedule_replay.specs.FlatLists.{AddsItem}
+use Rattle.schedule_replay.specs.AddedItems.{AddsItem}
 use Rattle.schedule_replay.specs.VectorLines.{bit_of}
 use Rattle.schedule_replay.proofs.Adding.{AddsUpTo, one_added, none_added, all_added}
 use Rattle.schedule_replay.proofs.vector_lines.push_bits.Goals as goal

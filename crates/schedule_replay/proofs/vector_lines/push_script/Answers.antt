@@ -1,7 +1,7 @@
 -- A line and its script.
 use Rattle.std.proofs.Common.{◌∙◌, [], Some, None, cond, ap, subst}
 use Rattle.std.specs.Prelude.{IfOk}
-use Rattle.schedule_replay.specs.FlatLists.{Adds}
+use Rattle.schedule_replay.specs.AddedItems.{Adds}
 use Rattle.schedule_replay.proofs.Adding.{nothing_added}
 use Rattle.schedule_replay.proofs.Spaces.{script_parts, script_alone}
 use Rattle.schedule_replay.proofs.vector_lines.push_script.Goals as goal

@@ -1,7 +1,7 @@
 -- The wires of numbers.
 use Rattle.std.proofs.Common.{subst}
 use Rattle.std.specs.Prelude.{IfOk}
-use Rattle.schedule_replay.specs.FlatLists.{AddsItem}
+use Rattle.schedule_replay.specs.AddedItems.{AddsItem}
 use Rattle.schedule_replay.specs.VectorLines.{wire_of, spaced}
 use Rattle.schedule_replay.proofs.Adding.{AddsUpTo, one_added, none_added, last_if}
 use Rattle.schedule_replay.proofs.Spaces.{parts_of, whole_of}

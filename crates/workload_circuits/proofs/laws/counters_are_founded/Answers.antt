@@ -1,5 +1,5 @@
 -- The laws of counters.
-use Rattle.workload_circuits.proofs.Founding.{counters_fit, counters_are_founded, counters_are_not_refused}
+use Rattle.workload_circuits.proofs.WellFounded.{counters_fit, counters_are_founded, counters_are_not_refused}
 use Rattle.workload_circuits.proofs.laws.counters_are_founded.Goals as goal
 
 pub returns-clause-fits : goal.returns-clause-fits

@@ -1,7 +1,7 @@
 -- The netlist of a machine by the laws of the layers below.
 use Rattle.std.proofs.Common.{subst}
 use Rattle.cell_netlist.specs.Netlists.{PlainNetlist, IsNetlist}
-use Rattle.xsfq_cli.proofs.Compiled.{mapped_is_net_of}
+use Rattle.xsfq_cli.proofs.CompiledSources.{mapped_is_net_of}
 use Rattle.xsfq_cli.proofs.compiling.netlist_of.Goals as goal
 
 pub returns-clause-net : goal.returns-clause-net

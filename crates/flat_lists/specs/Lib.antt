@@ -1,0 +1,2 @@
+-- The words of flat lists.
+pub mod FlatLists

@@ -1,0 +1,2 @@
+-- The words of texts in pieces.
+pub mod Pieces

@@ -6,10 +6,11 @@ use Rattle.std.specs.Ordering.{is_eq, nat_cmp}
 use Rattle.std.specs.Cmp.{eq_by_cmp_equiv}
 use Rattle.std.specs.Cmp.Lexicographic.{slice_cmp, bytes_decides, nat_list_cmp_total, nat_list_eq_equiv}
 use Rattle.std.specs.BTreeMap as tree
-use Rattle.std.specs.BTreeMap.{BTreeMap, get_by}
+use Rattle.std.specs.BTreeMap.{BTreeMap}
 use Rattle.std.specs.Map.{lookup, IsKeyTest, AreApart, KeepsOthers}
 use Rattle.std.proofs.lemmas.Map.Text.{is_eq-slice_cmp}
-use Rattle.blif_reader.specs.Names.{AreNumbered, number_from, number_in, HasNumbers}
+use Rattle.blif_reader.specs.Names.{AreNumbered, number_from, number_in}
+use Rattle.blif_reader.specs.NameTables.{overflow_at}
 
 same_bool : (b : Bool) → (b ≡ true) ⊎ (b ≡ false)
 same_bool true = inl refl
@@ -26,14 +27,11 @@ module _ {K : Type 0} (eq : K → K → Bool) (test : K → Bool) where
   unfolding KeepsOthers
   other_entries old new h = h
 
-abbrev at_bytes : BTreeMap (Vec ℕ) ℕ → List ℕ → Option ℕ
-at_bytes m bs = get_by (λ key. slice_cmp nat_cmp bs key.items) m
-
 pub updates_bytes : (bs : List ℕ) (m n : BTreeMap (Vec ℕ) ℕ) (w : Option ℕ) → tree.UpdatesBy (λ x y. slice_cmp nat_cmp x.items y.items) (λ k. slice_cmp nat_cmp bs k.items) m n w
-    → (cs : List ℕ) → at_bytes n cs ≡ cond (bytes_eq bs cs) w (at_bytes m cs)
+    → (cs : List ℕ) → overflow_at n cs ≡ cond (bytes_eq bs cs) w (overflow_at m cs)
 updates_bytes bs m n w h cs =
     elim (same_bool (bytes_eq bs cs)) [
-      | inl hit ↦ let same : bs ≡ cs = (bytes_decides bs cs).0 hit in rw hit (ap (at_bytes n) (sym same) ∙ h.1)
+      | inl hit ↦ let same : bs ≡ cs = (bytes_decides bs cs).0 hit in rw hit (ap (overflow_at n) (sym same) ∙ h.1)
       | inr miss ↦ rw miss (other_entries _ _ _ _ h.3 _ (λ x y. (eq_by_cmp_equiv nat_list_cmp_total).congr cs x.items y.items) (λ k. apart_in_order bs cs k.items miss))
     ]
 
@@ -58,13 +56,6 @@ number_push first (other ∷ names) new name h =
     (λ hit. sym (nat_list_eq_equiv.congr new name other hit) ∙ c.0)
     ∙ ap (λ k. cond (bytes_eq new name) (Some k) (cond (bytes_eq name other) (Some first) (number_from (first + 1) names name))) n
 
-pub one_more : (names : List (List ℕ)) (new : List ℕ) (m n : BTreeMap (Vec ℕ) ℕ) (number : ℕ) → number_in names new ≡ None → number ≡ length names + 1 → HasNumbers names m
-    → tree.UpdatesBy (λ x y. slice_cmp nat_cmp x.items y.items) (λ k. slice_cmp nat_cmp new k.items) m n (Some number) → HasNumbers (names ++ new ∷ []) n
-one_more names new m n number fresh is has updates name =
-    let k : number ≡ 1 + length names = omega arith in
-    updates_bytes new m n (Some number) updates name ∙ ap (cond (bytes_eq new name) (Some number)) (has name) ∙ ap (λ j. cond (bytes_eq new name) (Some j) (number_in names name)) k
-    ∙ sym (number_push 1 names new name fresh)
-
 pub number_new : (names : List (List ℕ)) (name : List ℕ) (number : ℕ) → number_in names name ≡ None → number ≡ length names + 1 → number_in (names ++ name ∷ []) name ≡ Some number
 number_new names name number fresh is =
     let hit : bytes_eq name name ≡ true = (bytes_decides name name).1 refl in
@@ -76,7 +67,7 @@ no_number None h = refl
 no_number (Some n) h = absurd (h n refl)
 
 -- an item of names with a new one behind them is one of the names, or the new one
-last_or_before : (names : List (List ℕ)) (new : List ℕ) (place : ℕ) (name : List ℕ) → slice_get (names ++ new ∷ []) place ≡ Some name
+pub last_or_before : (names : List (List ℕ)) (new : List ℕ) (place : ℕ) (name : List ℕ) → slice_get (names ++ new ∷ []) place ≡ Some name
     → (slice_get names place ≡ Some name) ⊎ ((place ≡ length names) × (new ≡ name))
 last_or_before [] new zero name e = inr (refl, cc)
 last_or_before [] new (suc place) name e = cc
@@ -87,7 +78,7 @@ last_or_before (other ∷ names) new (suc place) name e = elim (last_or_before n
 ]
 
 -- names that have the numbers of their places, and a new one behind them
-same_or_not : (one other : List ℕ) → ((one ≡ other) ⊎ (bytes_eq one other ≡ false))
+pub same_or_not : (one other : List ℕ) → ((one ≡ other) ⊎ (bytes_eq one other ≡ false))
 same_or_not one other = elim (same_bool (bytes_eq one other)) [ inl hit ↦ inl ((bytes_decides one other).0 hit) | inr miss ↦ inr miss ]
 
 other_numbered : (names : List (List ℕ)) (new name : List ℕ) (number : ℕ) → number_in names new ≡ None → number_in names name ≡ Some number

@@ -1,5 +1,7 @@
 -- The proofs of the reader of BLIF.
 pub mod Keys
+pub mod NameTexts
+pub mod NameTables
 pub mod Numbers
 pub mod Fails
 pub mod Marks

@@ -1,5 +1,7 @@
 -- The definitions of names, rows, states, statements, and of what a BLIF source says.
 pub mod Names
+pub mod NameTexts
+pub mod NameTables
 pub mod Rows
 pub mod States
 pub mod Refusing

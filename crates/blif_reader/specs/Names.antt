@@ -1,11 +1,7 @@
 -- Numbers of names by first appearance.
-use Rattle.std.specs.Prelude.{◌≡◌, ℕ, ◌+◌, ◌++◌, List, [], ◌∷◌, Option, Some, None, length, slice_get, unwrap_or, if◌then◌else◌}
+use Rattle.std.specs.Prelude.{◌≡◌, ◌≤◌, ◌-◌, ℕ, ◌+◌, ◌++◌, List, [], ◌∷◌, Option, Some, None, length, slice_get, unwrap_or, if◌then◌else◌}
 use Rattle.std.specs.Option.{is_some}
 use Rattle.std.specs.Str.{bytes_eq}
-use Rattle.std.specs.Global.{Vec}
-use Rattle.std.specs.BTreeMap.{BTreeMap, get_by}
-use Rattle.std.specs.Ordering.{nat_cmp}
-use Rattle.std.specs.Cmp.Lexicographic.{slice_cmp}
 
 -- the number of a name among names that are numbered on from this one
 abbrev pub number_from : ℕ → List (List ℕ) → List ℕ → Option ℕ
@@ -24,10 +20,9 @@ names_with names name = if is_some (number_in names name) then names else names 
 abbrev pub number_for : List (List ℕ) → List ℕ → ℕ
 number_for names name = unwrap_or (number_in names name) (length names + 1)
 
--- a table has exactly these numbers
-abbrev pub HasNumbers : List (List ℕ) → BTreeMap (Vec ℕ) ℕ → Type 0
-HasNumbers names numbers =
-    (name : List ℕ) → get_by (λ key. slice_cmp nat_cmp name key.items) numbers ≡ number_in names name
+-- a number is that of a name, from 1
+abbrev pub HasNumber : List (List ℕ) → ℕ → List ℕ → Type 0
+HasNumber names number name = (1 ≤ number) × (slice_get names (number - 1) ≡ Some name)
 
 -- each name has the number of its place
 abbrev pub AreNumbered : List (List ℕ) → Type 0

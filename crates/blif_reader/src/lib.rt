@@ -11,6 +11,8 @@ mod latch_kinds;
 mod latches;
 mod laws;
 mod logical_lines;
+mod name_tables;
+mod name_texts;
 mod names;
 mod open_equations;
 mod pieces;

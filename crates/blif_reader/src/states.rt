@@ -81,7 +81,7 @@ pub(crate) fn net(nets: &mut Names, name: &[u8]) -> Result<NetId, LineRefusal>
     ensures few { IfOk result (λ net. net.number ≤ 2 ^ 19) }
     ensures err { IfErr result (λ refusal. FailsBy refusal (net_read nets.old name.now)) }
 {
-    if let Some(number) = nets.recall(name) {
+    if let Some(number) = nets.find(name) {
         return Ok(NetId::new(number));
     }
     within(Quantity::Nets, nets.len() as usize + 1)?;

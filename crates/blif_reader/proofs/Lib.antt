@@ -1,17 +1,16 @@
 -- The proofs of the reader of BLIF.
 pub mod Keys
-pub mod NameTexts
 pub mod NameTables
-pub mod Numbers
+pub mod NameNumbers
 pub mod Fails
-pub mod Marks
+pub mod RowMarks
 pub mod Inversions
 pub mod Bounding
 pub mod LineBounds
 pub mod Taking
 pub mod Limits
 pub mod UseLemmas
-pub mod Faults
+pub mod MachineFaults
 pub mod Judgements
 pub mod LastLines
 pub mod FirstNames

@@ -16,7 +16,7 @@ use Rattle.blif_reader.specs.States.{BlifState, OpenEquation, with_column}
 use Rattle.blif_reader.specs.Latches.{net_read, clock_read, differs_in_clock}
 use Rattle.blif_reader.specs.Statements.{input_read, output_read, column_read}
 use Rattle.blif_reader.specs.Refusing.{over}
-use Rattle.blif_reader.specs.Tellings.{net_of, last_or, front_of}
+use Rattle.blif_reader.specs.Tellings.{net_of, last_or, all_but_last}
 use Rattle.blif_reader.proofs.Inversions.{allowed, over_ok, after_ok}
 use Rattle.blif_reader.proofs.LineBounds.{goes_by}
 use Rattle.blif_reader.proofs.FirstNames.{Extends, extends_on, extends_joined, net_kept}
@@ -177,7 +177,7 @@ column_tells state next name h =
 abbrev pub grown : OpenEquation → List ℕ → OpenEquation
 grown unended numbers = record {
   equation = record unended.equation { net = last_or unended.equation.net numbers };
-  columns = unended.columns ++ front_of unended.equation.net numbers;
+  columns = unended.columns ++ all_but_last unended.equation.net numbers;
 }
 
 pub record Columns (state next : BlifState) (unended : OpenEquation) (names : List (List ℕ)) : Type 0 where
@@ -211,5 +211,5 @@ columns_tell (name ∷ names) state next unended e h =
       opened = λ big x. more.opened big x
           ∙ ap (λ n. Some (grown (with_column (Some unended) n) (map (net_of big) names))) (sym (net_kept state.nets big name (extends_on (names_with state.nets name) next.nets big grows x)))
           ∙ ap (λ (l : List ℕ). Some (record { equation = record unended.equation { net = last_or (net_of big name) (map (net_of big) names) }; columns = l }))
-          (append_assoc unended.columns (unended.equation.net ∷ []) (front_of (net_of big name) (map (net_of big) names)));
+          (append_assoc unended.columns (unended.equation.net ∷ []) (all_but_last (net_of big name) (map (net_of big) names)));
     })

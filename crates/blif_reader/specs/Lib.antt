@@ -1,6 +1,5 @@
 -- The definitions of names, rows, states, statements, and of what a BLIF source says.
 pub mod Names
-pub mod NameTexts
 pub mod NameTables
 pub mod Rows
 pub mod States

@@ -83,9 +83,9 @@ first_word [] = []
 first_word (word ∷ words) = word
 
 -- all but the last one
-abbrev pub front_of : {A : Type 0} → A → List A → List A
-front_of before [] = []
-front_of before (next ∷ more) = before ∷ front_of next more
+abbrev pub all_but_last : {A : Type 0} → A → List A → List A
+all_but_last before [] = []
+all_but_last before (next ∷ more) = before ∷ all_but_last next more
 
 -- the rows that stand under a line, before the next line that begins with a dot; lines without words are passed over
 abbrev pub rows_under : List (List (List ℕ)) → List (List (List ℕ))
@@ -110,7 +110,7 @@ equation_told nets [] rows = []
 equation_told nets (name ∷ names) rows = record {
   net = last_or (net_of nets name) (map (net_of nets) names);
   on = bit_told true rows;
-  cubes = map (cube_told (front_of (net_of nets name) (map (net_of nets) names))) rows;
+  cubes = map (cube_told (all_but_last (net_of nets name) (map (net_of nets) names))) rows;
 } ∷ []
 
 abbrev pub equations_told : List (List ℕ) → List (List (List ℕ)) → List PlainEquation

@@ -1,30 +1,28 @@
 //! The texts of names.
 
-ghost use Rattle.std.specs.Prelude.{◌≡◌, ◌↔◌, ◌<◌, ◌≤◌, ◌-◌, ◌++◌, ◌∷◌, [], Some, IsTrue, OnOk, OnErr, length, take, drop, get_or, slice_get};
-ghost use Rattle.blif_reader.specs.NameTexts.{texts_from, AreEnds};
+ghost use Rattle.std.specs.Prelude.{◌≡◌, ◌↔◌, ◌<◌, ◌++◌, ◌∷◌, [], Some, IsTrue, OnOk, OnErr, length, slice_get};
 ghost use Rattle.blif_reader.specs.Names.{HasNumber};
 
+use flat_lists::FlatLists;
 use pulse_ids::NoMemory;
 use std::alloc::Global;
 use std::marker::Model;
 
-/// Texts, which stand one behind another in one list of bytes. Each takes its bytes and one place more.
+/// Texts in order. Each takes its bytes and one place more.
 #[derive(Debug, Drop)]
 pub(crate) struct NameTexts {
-    bytes: Vec<u8>,
-    // Where each text ends, and the next one begins.
-    ends: Vec<usize>,
+    // All its lists have ended.
+    lists: FlatLists<u8>,
 }
 
 impl Model for NameTexts {
-    ghost use Rattle.std.specs.Prelude.{List, ℕ};
-    ghost use Rattle.blif_reader.specs.NameTexts.{texts_from, AreEnds};
+    ghost use Rattle.std.specs.Prelude.{◌≡◌, [], List, ℕ};
 
     ghost Value = { List (List ℕ) };
 
-    ghost view = { λ texts. texts_from 0 texts.ends.items texts.bytes.items };
+    ghost view = { λ texts. texts.lists.lists };
 
-    ghost invariant = { λ texts. AreEnds 0 texts.ends.items texts.bytes.items };
+    ghost invariant = { λ texts. texts.lists.begun ≡ [] };
 }
 
 impl NameTexts {
@@ -33,17 +31,15 @@ impl NameTexts {
         ensures { result ≡ [] }
     {
         NameTexts {
-            bytes: Vec::new(alloc),
-            ends: Vec::new(alloc),
+            lists: FlatLists::new(alloc),
         }
     }
 
     /// How many texts there are.
-    #[tactic(auto, using(crate::proofs::NameTexts::length_texts))]
     pub(crate) fn len(&self) -> usize
         ensures { result ≡ length self.now }
     {
-        self.ends.len()
+        self.lists.len()
     }
 
     /// The text of a place from 0, in constant time.
@@ -51,7 +47,7 @@ impl NameTexts {
         requires { place < length self.now }
         ensures { slice_get self.now place ≡ Some result.now }
     {
-        part_of(&self.bytes, &self.ends, place)
+        self.lists.get(place)
     }
 
     /// Whether this number from 1 is that of a text, in time linear in the text.
@@ -67,38 +63,6 @@ impl NameTexts {
         ensures ok { OnOk result (self.new ≡ self.old ++ text.now ∷ []) }
         ensures err { OnErr result (self.new ≡ self.old) }
     {
-        self.ends.reserve(1)?;
-        self.bytes.extend_from_slice(text)?;
-        self.ends.push(self.bytes.len())?;
-        Ok(())
+        self.lists.end_with(text)
     }
-}
-
-/// Where the text of a place begins.
-fn start_of(ends: &[usize], place: usize) -> usize
-    requires { place < length ends.now }
-    ensures { result ≡ get_or (0 ∷ ends.now) place 0 }
-{
-    if place == 0 { 0 } else { ends[place - 1] }
-}
-
-/// Where the text of a place begins and ends.
-fn span_of(bytes: &[u8], ends: &[usize], place: usize) -> (usize, usize)
-    requires ends { AreEnds 0 ends.now bytes.now }
-    requires there { place < length ends.now }
-    ensures rise { result.0 ≤ result.1 }
-    ensures within { result.1 ≤ length bytes.now }
-    ensures is { slice_get (texts_from 0 ends.now bytes.now) place ≡ Some (take (result.1 - result.0) (drop result.0 bytes.now)) }
-{
-    (start_of(ends, place), ends[place])
-}
-
-/// The text of a place.
-fn part_of<'a>(bytes: &'a [u8], ends: &[usize], place: usize) -> &'a [u8]
-    requires ends { AreEnds 0 ends.now bytes.now }
-    requires there { place < length ends.now }
-    ensures { slice_get (texts_from 0 ends.now bytes.now) place ≡ Some result.now }
-{
-    let (start, end) = span_of(bytes, ends, place);
-    &bytes[start..end]
 }

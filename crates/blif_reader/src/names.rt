@@ -55,7 +55,7 @@ impl Names {
     }
 
     /// The number of a name, in constant time, or where the slots that its hash allows are full in time logarithmic in the names.
-    #[tactic(auto, using(crate::proofs::Numbers::number_small))]
+    #[tactic(auto, using(crate::proofs::NameNumbers::number_small))]
     pub(crate) fn find(&self, name: &[u8]) -> Option<u32>
         ensures found { result ≡ number_in self.now name.now }
         ensures few { IfSome result (λ number. number ≤ 2 ^ 19) }

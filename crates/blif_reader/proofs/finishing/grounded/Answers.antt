@@ -1,7 +1,7 @@
 -- The fault of a machine.
 use Rattle.std.proofs.Common.{length, refl}
 use Rattle.source_machine.specs.Machines.{machine_of}
-use Rattle.blif_reader.proofs.Faults.{names_net_of}
+use Rattle.blif_reader.proofs.MachineFaults.{names_net_of}
 use Rattle.blif_reader.proofs.finishing.grounded.Goals as goal
 
 pub machine_cause-requires : goal.machine_cause-requires

@@ -3,7 +3,7 @@ use Rattle.std.proofs.Common.{◌+◌, ◌++◌, ℕ, List, length, map, drop, s
 use Rattle.std.proofs.lemmas.List.{length-map}
 use Rattle.source_machine.specs.Machines.{PlainLiteral, literal_of}
 use Rattle.blif_reader.specs.Rows.{literals_of}
-use Rattle.blif_reader.proofs.Marks.{literals_step, literals_few}
+use Rattle.blif_reader.proofs.RowMarks.{literals_step, literals_few}
 use Rattle.blif_reader.proofs.rows.read_row.Goals as goal
 
 pub add_mark-requires-clause-few : goal.add_mark-requires-clause-few

@@ -15,8 +15,7 @@ ends_more start [] bytes text all e are = (omega arith, omega arith, drop_of_len
 ends_more start (end ∷ ends) bytes text all e (rise, within, rest) =
     let longer = length-append bytes text in
     let left = length-drop (end - start) bytes in
-    let later = length-append (drop (end - start) bytes) text in
-    (
+    let later = length-append (drop (end - start) bytes) text in (
       rise,
       omega arith,
       subst (AreEnds end (ends ++ all ∷ [])) (sym (drop-append-le (end - start) bytes text within)) (ends_more end ends (drop (end - start) bytes) text all (omega arith) rest),

@@ -1,8 +1,7 @@
 -- One name more is kept, and at the end all of them.
-use Rattle.std.proofs.Common.{◌∙◌, ◌-◌, ◌+◌, arith}
+use Rattle.std.proofs.Common.{◌∙◌, ◌-◌, arith}
 use Rattle.std.proofs.lemmas.Option.{slice_get_within}
-use Rattle.blif_reader.specs.Names.{HasNumber}
-use Rattle.blif_reader.proofs.NameTables.{AreKeptTo, kept_next}
+use Rattle.blif_reader.proofs.NameTables.{kept_next}
 use Rattle.blif_reader.proofs.name_tables.table_of.Goals as goal
 
 pub loop-place-preserved : goal.loop-place-preserved

@@ -1,5 +1,5 @@
 -- No number, behind a free slot or a full window.
-use Rattle.std.proofs.Common.{◌≡◌, ◌<◌, ◌∙◌, List, ℕ, Some, None, length, get_or, ap, sym, subst, arith}
+use Rattle.std.proofs.Common.{◌≡◌, ◌<◌, ◌∙◌, List, ℕ, None, length, get_or, ap, sym, subst, arith}
 use Rattle.blif_reader.specs.NameTables.{end_of, start_of}
 use Rattle.blif_reader.proofs.NameTables.{IsNotBefore, none_free, none_full, looked_over, if_none}
 use Rattle.blif_reader.proofs.name_tables.NameTable.find.Goals as goal

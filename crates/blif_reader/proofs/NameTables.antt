@@ -1,6 +1,6 @@
 -- Where the numbers of names stand.
 use Rattle.std.proofs.Common.{◌≡◌, ◌≢◌, ℕ, suc, ◌+◌, ◌-◌, ◌<◌, ◌≤◌, ◌⊎◌, inl, inr, Bool, true, false, cond, List, [], ◌∷◌, ◌++◌, length, slice_get, get_or, Option, Some, None, refl, sym, ap, ◌∙◌, subst, arith}
-use Rattle.std.specs.Prelude.{slice_set, IfSome, IfNone}
+use Rattle.std.specs.Prelude.{IfSome, IfNone}
 use Rattle.std.specs.Global.{Vec}
 use Rattle.std.specs.Str.{bytes_eq}
 use Rattle.std.specs.BTreeMap as tree
@@ -8,9 +8,8 @@ use Rattle.std.specs.BTreeMap.{BTreeMap}
 use Rattle.std.specs.Ordering.{nat_cmp}
 use Rattle.std.specs.Cmp.Lexicographic.{slice_cmp, bytes_decides}
 use Rattle.std.proofs.lemmas.Bool.{cases_order}
-use Rattle.std.proofs.lemmas.List.{length-set, get_or-set_same, get_or-set_other}
 use Rattle.blif_reader.specs.Names.{AreNumbered, HasNumber, number_from, number_in}
-use Rattle.blif_reader.specs.NameTables.{AreTaken, AreKept, IsInWindow, IsInOverflow, IsKept, end_of, overflow_at, start_of}
+use Rattle.blif_reader.specs.NameTables.{AreTaken, AreKept, IsInWindow, IsInOverflow, IsKept, OthersStay, end_of, overflow_at, start_of}
 use Rattle.blif_reader.proofs.Keys.{last_or_before, no_number, noted_number, same_or_not, updates_bytes}
 
 at_by : (b : Bool) (first number : ℕ) (later : Option ℕ) (names : List (List ℕ)) (other name : List ℕ) → (b ≡ true → name ≡ other)
@@ -91,8 +90,8 @@ taken_more old new start end keeps taken at least most = let is = keeps at (take
 -- numbers that are kept stay so
 kept_more : (old new : List ℕ) (overflow further : BTreeMap (Vec ℕ) ℕ) (number : ℕ) (name : List ℕ) → length new ≡ length old → Keeps old new → overflow_at further name ≡ overflow_at overflow name
     → 1 ≤ number → IsKept old overflow number name → IsKept new further number name
-kept_more old new overflow further number name long keeps same least kept = subst (λ (n : ℕ). IsInWindow new (start_of n name) number ⊎ IsInOverflow new further (start_of n name) number name) (sym long)
-    (elim kept [
+kept_more old new overflow further number name long keeps same least kept =
+    subst (λ (n : ℕ). IsInWindow new (start_of n name) number ⊎ IsInOverflow new further (start_of n name) number name) (sym long) (elim kept [
       | inl w ↦ inl (record {
         at = w.at;
         least = w.least;
@@ -134,7 +133,7 @@ apart_from names new name number numbered fresh has same =
     cc
 
 pub are_kept : (names : List (List ℕ)) (new : List ℕ) (slots further : List ℕ) (overflow wider : BTreeMap (Vec ℕ) ℕ) → AreNumbered names → number_in names new ≡ None
-    → ((known : ℕ) (other : List ℕ) → other ≢ new → 1 ≤ known → IsKept slots overflow known other → IsKept further wider known other)
+    → OthersStay slots overflow new further wider
     → AreKept names slots overflow → AreKept names further wider
 are_kept names new slots further overflow wider numbered fresh more kept number name has = more number name (apart_from names new name number numbered fresh has) has.0 (kept number name has)
 
@@ -143,7 +142,7 @@ pub are_kept_more : (names : List (List ℕ)) (new : List ℕ) (slots : List ℕ
 are_kept_more names new slots overflow number is put kept known name has = elim (last_or_before names new (known - 1) name has.1) [
   | inl before ↦ kept known name (has.0, before)
   | inr (at, same) ↦ let n : number ≡ known = omega (arith, has.0) in
-    subst (λ (k : ℕ). IsKept slots overflow k name) n (subst (IsKept slots overflow number) same put)
+      subst (λ (k : ℕ). IsKept slots overflow k name) n (subst (IsKept slots overflow number) same put)
 ]
 
 -- the names up to a place are kept, and one more
@@ -165,13 +164,13 @@ same_number names name other place known at had same =
 
 pub kept_next : (names : List (List ℕ)) (name : List ℕ) (slots further : List ℕ) (overflow wider : BTreeMap (Vec ℕ) ℕ) (place : ℕ) → AreNumbered names → slice_get names place ≡ Some name
     → IsKept further wider (place + 1) name
-    → ((known : ℕ) (other : List ℕ) → other ≢ name → 1 ≤ known → IsKept slots overflow known other → IsKept further wider known other)
+    → OthersStay slots overflow name further wider
     → AreKeptTo names slots overflow place → AreKeptTo names further wider (place + 1)
 kept_next names name slots further overflow wider place numbered at put more kept known other had most = elim (cases_order known (place + 1)) [
   | inl same ↦ subst (λ (k : ℕ). IsKept further wider k other) (sym same) (subst (IsKept further wider (place + 1)) (same_number names name other place known at had same) put)
   | inr (inl less) ↦
-    let here : place ≡ place + 1 - 1 = omega arith in
-    let has : HasNumber names (place + 1) name = (omega arith, ap (slice_get names) (sym here) ∙ at) in
-    more known other (number_apart names name other (place + 1) known numbered has had less) had.0 (kept known other had (omega arith))
+      let here : place ≡ place + 1 - 1 = omega arith in
+      let has : HasNumber names (place + 1) name = (omega arith, ap (slice_get names) (sym here) ∙ at) in
+      more known other (number_apart names name other (place + 1) known numbered has had less) had.0 (kept known other had (omega arith))
   | inr (inr over) ↦ absurd (omega arith)
 ]

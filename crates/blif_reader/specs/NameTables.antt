@@ -1,5 +1,5 @@
 -- Where the numbers of names stand: each in the window of its name, or behind a full window in the overflow.
-use Rattle.std.specs.Prelude.{◌≡◌, ◌≤◌, ◌<◌, ◌⊎◌, ◌+◌, ◌-◌, ◌*◌, ◌%◌, ◌^◌, ℕ, List, Option, Some, length, min, bit_and, bit_xor, fold, get_or}
+use Rattle.std.specs.Prelude.{◌≡◌, ◌≢◌, ◌≤◌, ◌<◌, ◌⊎◌, ◌+◌, ◌-◌, ◌*◌, ◌%◌, ◌^◌, ℕ, List, Option, Some, length, min, bit_and, bit_xor, fold, get_or}
 use Rattle.std.specs.Global.{Vec}
 use Rattle.std.specs.BTreeMap.{BTreeMap, get_by}
 use Rattle.std.specs.Ordering.{nat_cmp}
@@ -49,6 +49,11 @@ IsKept slots overflow number name =
     let start = start_of (length slots) name in
     IsInWindow slots start number ⊎ IsInOverflow slots overflow start number name
 
--- so is that of each name
+-- the numbers of all names but one that were kept are kept
+abbrev pub OthersStay : List ℕ → BTreeMap (Vec ℕ) ℕ → List ℕ → List ℕ → BTreeMap (Vec ℕ) ℕ → Type 0
+OthersStay slots overflow name further wider =
+    (known : ℕ) (other : List ℕ) → other ≢ name → 1 ≤ known → IsKept slots overflow known other → IsKept further wider known other
+
+-- each name's number is kept
 abbrev pub AreKept : List (List ℕ) → List ℕ → BTreeMap (Vec ℕ) ℕ → Type 0
 AreKept names slots overflow = (number : ℕ) (name : List ℕ) → HasNumber names number name → IsKept slots overflow number name

@@ -1,8 +1,8 @@
 //! Where the numbers of names stand.
 
-ghost use Rattle.std.specs.Prelude.{◌≡◌, ◌≢◌, ◌≤◌, ◌<◌, ◌⊎◌, ◌+◌, ◌^◌, ℕ, List, Some, None, IfOk, OnOk, IfSome, IfNone, length, get_or};
+ghost use Rattle.std.specs.Prelude.{◌≡◌, ◌≤◌, ◌<◌, ◌+◌, ◌*◌, ◌^◌, ℕ, [], Some, None, IfOk, OnOk, IfSome, IfNone, length, get_or, replicate};
 ghost use Rattle.blif_reader.specs.Names.{number_in, HasNumber, AreNumbered};
-ghost use Rattle.blif_reader.specs.NameTables.{hash_with, hash_of, start_of, end_of, AreTaken, overflow_at, IsKept, AreKept};
+ghost use Rattle.blif_reader.specs.NameTables.{hash_with, hash_of, start_of, end_of, AreTaken, overflow_at, IsKept, OthersStay, AreKept};
 
 use crate::name_texts::NameTexts;
 use pulse_ids::NoMemory;
@@ -25,7 +25,9 @@ pub(crate) struct NameTable {
 
 impl NameTable {
     /// A table without slots. It takes no memory.
-    pub(crate) fn empty(alloc: Global) -> NameTable {
+    pub(crate) fn empty(alloc: Global) -> NameTable
+        ensures { result.slots.items ≡ [] }
+    {
         NameTable {
             alloc,
             slots: Vec::new(alloc),
@@ -34,19 +36,14 @@ impl NameTable {
     }
 
     /// A table of so many slots, which are free. It takes four bytes for each.
-    fn free(alloc: Global, count: usize) -> Result<NameTable, NoMemory> {
+    fn free(alloc: Global, count: usize) -> Result<NameTable, NoMemory>
+        ensures { IfOk result (λ table. table.slots.items ≡ replicate count 0) }
+    {
         Ok(NameTable {
             alloc,
             slots: vec![in alloc; 0u32; count]?,
             overflow: BTreeMap::new(alloc),
         })
-    }
-
-    /// How many slots there are.
-    pub(crate) fn len(&self) -> usize
-        ensures { result ≡ length self.now.slots.items }
-    {
-        self.slots.len()
     }
 
     /// The number of a name: in constant time, or where its window is full in time logarithmic in the overflow.
@@ -79,10 +76,10 @@ impl NameTable {
         }
     }
 
-    /// Puts a number where its name is looked for, in the time of a look. Where memory is refused nothing changes.
+    /// Puts a number where its name is looked for, in the time of a look. What is kept stays so, also where memory is refused.
     pub(crate) fn put(&mut self, name: &[u8], number: u32) -> Result<(), NoMemory>
         ensures put { OnOk result (1 ≤ number → IsKept self.new.slots.items self.new.overflow number name.now) }
-        ensures kept { (known : ℕ) (other : List ℕ) → other ≢ name.now → 1 ≤ known → IsKept self.old.slots.items self.old.overflow known other → IsKept self.new.slots.items self.new.overflow known other }
+        ensures kept { OthersStay self.old.slots.items self.old.overflow name.now self.new.slots.items self.new.overflow }
         ensures count { length self.new.slots.items ≡ length self.old.slots.items }
     {
         let start = start_of(self.slots.len(), name);
@@ -95,13 +92,30 @@ impl NameTable {
         self.overflow.insert(key, number)?;
         Ok(())
     }
+
+    /// Makes the table anew, with four slots for each name, where one name more would have more than half of the slots. In the
+    /// mean a name is put so at most twice. Where memory is refused nothing changes.
+    pub(crate) fn widen(&mut self, texts: &NameTexts) -> Result<(), NoMemory>
+        requires numbered { AreNumbered texts.now }
+        requires few { length texts.now ≤ 2 ^ 19 }
+        requires kept { AreKept texts.now self.old.slots.items self.old.overflow }
+        ensures kept { AreKept texts.now self.new.slots.items self.new.overflow }
+        ensures room { OnOk result (2 * (length texts.now + 1) ≤ length self.new.slots.items) }
+    {
+        let names = texts.len();
+        if self.slots.len() < 2 * (names + 1) {
+            *self = table_of(self.alloc, (4 * names).max(64), texts)?;
+        }
+        Ok(())
+    }
 }
 
 /// A table of so many slots that keeps the numbers of all these names, in the time of a look for each.
-pub(crate) fn table_of(alloc: Global, count: usize, texts: &NameTexts) -> Result<NameTable, NoMemory>
+fn table_of(alloc: Global, count: usize, texts: &NameTexts) -> Result<NameTable, NoMemory>
     requires numbered { AreNumbered texts.now }
     requires few { length texts.now ≤ 2 ^ 19 }
-    ensures { IfOk result (λ table. AreKept texts.now table.slots.items table.overflow) }
+    ensures kept { IfOk result (λ table. AreKept texts.now table.slots.items table.overflow) }
+    ensures count { IfOk result (λ table. length table.slots.items ≡ count) }
 {
     let mut table = NameTable::free(alloc, count)?;
     for place in 0..texts.len() {

@@ -3,7 +3,7 @@
 ghost use Rattle.std.specs.Prelude.{◌≡◌, ◌<◌, ◌≤◌, ◌-◌, ◌^◌, ◌+◌, ◌++◌, ◌∷◌, [], List, None, Some, IfOk, IfSome, OnOk, OnErr, length, slice_get};
 ghost use Rattle.blif_reader.specs.Names.{number_in};
 
-use crate::name_tables::{NameTable, table_of};
+use crate::name_tables::NameTable;
 use crate::name_texts::NameTexts;
 use pulse_ids::{Name, NoMemory};
 use std::alloc::Global;
@@ -15,7 +15,6 @@ use std::marker::Model;
 pub struct Names {
     alloc: Global,
     texts: NameTexts,
-    // At least twice as many slots as names.
     table: NameTable,
 }
 
@@ -63,8 +62,8 @@ impl Names {
         self.table.find(&self.texts, name)
     }
 
-    /// Gives a new name the next number, in the time of `find`. Where the table is made anew all names are put once more, which
-    /// makes the names so far two or three puts each. Where memory is refused nothing changes.
+    /// Gives a new name the next number, in the time of `find` but where the table is made anew: in the mean each name is put
+    /// there at most three times. Where memory is refused nothing changes.
     pub(crate) fn add(&mut self, name: &[u8]) -> Result<u32, NoMemory>
         requires new { number_in self.old name.now ≡ None }
         requires room { length self.old < 2 ^ 19 }
@@ -78,16 +77,11 @@ impl Names {
         Ok(number)
     }
 
-    // Makes the table anew, twice as large, where one name more would have more than half of the slots.
+    // Makes room for one name more in the table.
     fn widen(&mut self) -> Result<(), NoMemory>
         ensures { self.new ≡ self.old }
     {
-        let names = self.texts.len();
-        let count = self.table.len();
-        if count < 2 * (names + 1) {
-            self.table = table_of(self.alloc, (4 * names).max(64), &self.texts)?;
-        }
-        Ok(())
+        self.table.widen(&self.texts)
     }
 
     // Keeps a new name and its number. The number comes first: where there is no memory for the name it does no harm.

@@ -56,7 +56,7 @@ impl BlifReader {
 
     /// Takes the next piece, and answers the first refusal that the bytes so far show: that of the first logical line
     /// that stands whole and is refused, or the limit of 67,108,864 bytes. It takes time linear in the bytes, but for
-    /// the logarithm of the number of names.
+    /// the logarithm of the number of names where many have one hash.
     pub fn feed(&mut self, piece: &[u8]) -> Result<(), BlifRefusal>
         ensures choice { self.new.unset ≡ self.old.unset }
         ensures read { (unset : Unset) (text : List ℕ) → IsReading unset text self.old → IsReading unset (text ++ piece.now) self.new }

@@ -1,5 +1,5 @@
 -- A hash, cut to the slots.
-use Rattle.std.proofs.Common.{◌-◌, bit_and, ap, ◌∙◌}
+use Rattle.std.proofs.Common.{bit_and, ap, ◌∙◌}
 use Rattle.blif_reader.specs.NameTables.{start_of, hash_of}
 use Rattle.blif_reader.proofs.name_tables.start_of.Goals as goal
 

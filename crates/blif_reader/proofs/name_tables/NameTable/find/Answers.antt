@@ -1,5 +1,5 @@
 -- No number, behind a free slot or a full window.
-use Rattle.std.proofs.Common.{◌≡◌, ◌<◌, ◌∙◌, List, ℕ, Some, None, length, get_or, ap, sym, subst, arith}
+use Rattle.std.proofs.Common.{◌≡◌, ◌<◌, ◌∙◌, List, ℕ, None, length, get_or, ap, sym, subst, arith}
 use Rattle.blif_reader.specs.NameTables.{end_of, start_of}
 use Rattle.blif_reader.proofs.NameTables.{IsNotBefore, none_free, none_full, looked_over, if_none}
 use Rattle.blif_reader.proofs.name_tables.NameTable.find.Goals as goal
@@ -29,4 +29,6 @@ returns c =
     let begins : start ≡ start_of (length slots) name = c.start_of-start.ensures.is ∙ ap (λ n. start_of n name) (c.len.ensures ∙ table.slots.ok.0) in
     let full : end ≡ end_of (length slots) start = omega (arith, c.taken_end-end.ensures.most, c.if-end-end_of.false, c.end_of.ensures, c.len-2.ensures, table.slots.ok.0) in
     let before : IsNotBefore texts slots start end name = subst (λ (l : List ℕ). IsNotBefore texts l start end name) c.deref-2.ensures.value c.in_default.ensures.none in
-    looked_over texts name c.overflowed.result c.requires.numbered c.overflowed.ensures.some (λ none. none_full texts slots table.overflow name start end begins c.requires.kept full before (if_none c.overflowed.result none c.overflowed.ensures.none))
+    let over = λ (none : c.overflowed.result ≡ None). if_none c.overflowed.result none c.overflowed.ensures.none in
+    looked_over texts name c.overflowed.result c.requires.numbered c.overflowed.ensures.some
+    (λ none. none_full texts slots table.overflow name start end begins c.requires.kept full before (over none))

@@ -1,6 +1,6 @@
 -- A number in the overflow.
-use Rattle.std.proofs.Common.{◌≡◌, ◌∙◌, List, ℕ, length, ap, arith, subst}
-use Rattle.blif_reader.specs.NameTables.{AreTaken, start_of}
+use Rattle.std.proofs.Common.{◌≡◌, ◌≤◌, ◌∙◌, List, ℕ, length, ap, arith, subst}
+use Rattle.blif_reader.specs.NameTables.{AreTaken, end_of, start_of}
 use Rattle.blif_reader.proofs.NameTables.{Updates, put_in_overflow, kept_by_overflow}
 use Rattle.blif_reader.proofs.name_tables.NameTable.put.Goals as goal
 
@@ -13,7 +13,8 @@ returns-clause-put c least =
     let start = c.start_of-start.result in
     let begins : start ≡ start_of (length slots) name = c.start_of-start.ensures.is ∙ ap (λ n. start_of n name) (c.len.ensures ∙ old.slots.ok.0) in
     let taken = subst (λ (l : List ℕ). AreTaken l start c.taken_end-end.result) c.deref.ensures.value c.taken_end-end.ensures.taken in
-    put_in_overflow slots old.overflow c.insert.new.self start c.taken_end-end.result c.args.number name begins (omega (arith, c.if-end-end_of.false, c.end_of.ensures, c.len-2.ensures, old.slots.ok.0)) taken updates
+    let full : end_of (length slots) start ≤ c.taken_end-end.result = omega (arith, c.if-end-end_of.false, c.end_of.ensures, c.len-2.ensures, old.slots.ok.0) in
+    put_in_overflow slots old.overflow c.insert.new.self start c.taken_end-end.result c.args.number name begins full taken updates
 
 pub returns-clause-kept : goal.returns-clause-kept
 returns-clause-kept c known other apart least kept =

@@ -1,20 +1,15 @@
 -- What cells keep, by two bits a cell.
-use Rattle.std.proofs.Common.{◌≡◌, ◌∙◌, ◌+◌, ℕ, zero, suc, Bool, true, false, Option, Some, None, List, [], ◌∷◌, map, length, replicate, slice_get, slice_set, ap, sym, subst, refl, arith, if◌then◌else◌}
+use Rattle.std.proofs.Common.{◌≡◌, ◌∙◌, ◌+◌, ℕ, zero, suc, Bool, true, false, Some, List, [], ◌∷◌, map, length, replicate, slice_get, slice_set, get_or, ap, sym, subst, refl, arith}
 use Rattle.std.proofs.lemmas.List.{map-set}
-use Rattle.cell_netlist.specs.declared.kinds.Gate.TheVariants as gates
-use Rattle.cell_netlist.specs.declared.kinds.Port.TheVariants as ports
+use Rattle.std.proofs.lemmas.Option.{slice_get_within, slice_get-get_or}
 use Rattle.cell_netlist.specs.declared.kinds.Held.{Held}
 use Rattle.cell_netlist.specs.declared.kinds.Held.TheVariants.{Rest, HasA, HasB}
 use Rattle.cell_netlist.specs.declared.kinds.CellState.{CellState}
 use Rattle.cell_netlist.specs.declared.lines.Cell.{Cell}
 use Rattle.cell_netlist.specs.declared.lines.Cell.TheVariants.{La, Fa, Split, Droc}
-use Rattle.cell_netlist.specs.declared.lines.Reader.{Reader}
-use Rattle.cell_netlist.specs.declared.lines.Reader.TheVariants.{A, B, From, Feed, Output}
-use Rattle.cell_netlist.specs.OneReader.{port_reaction}
-use Rattle.cell_netlist.specs.Tables.{arrival, fed}
-use Rattle.cell_netlist.specs.World.{Reaction, preloaded, cleared, gate_step, droc_step}
+use Rattle.cell_netlist.specs.World.{preloaded, cleared}
 use Rattle.cell_netlist.proofs.CallerLemmasOnLists.{set-length}
-use Rattle.pulse_world.specs.PackedStates.{IsStateOf, held_by, state_by, first_of, second_of, first_in, second_in, states_by, ArePacked, nothing_kept}
+use Rattle.pulse_world.specs.PackedStates.{IsStateOf, held_by, state_by, first_of, second_of, first_in, second_in, states_by, ArePacked, nothing_kept, full}
 
 -- the bits of a state are read back as that state
 read-gate : (held : Held) (bit : Bool) → bit ≡ false
@@ -37,6 +32,13 @@ bits-read (La a b out) state fits = read-gate state.held state.bit fits
 bits-read (Fa a b out) state fits = read-gate state.held state.bit fits
 bits-read (Split from left right) state fits = read-split state fits.0 fits.1
 bits-read (Droc role preload feed q n) state fits = read-droc state.held state.bit fits
+
+-- a state set where it stands
+pub set-here : (xs : List CellState) (i : ℕ) (x : CellState) → slice_get xs i ≡ Some x → slice_set xs i x ≡ xs
+set-here [] zero x e = refl
+set-here [] (suc i) x e = refl
+set-here (y ∷ xs) zero x e = let same : x ≡ y = cc in ap (λ z. z ∷ xs) same
+set-here (y ∷ xs) (suc i) x e = ap (λ ys. y ∷ ys) (set-here xs i x e)
 
 -- one state a cell
 pub states-length : (cells : List Cell) (firsts seconds : List Bool) → length firsts ≡ length cells → length seconds ≡ length cells
@@ -87,6 +89,45 @@ module _ (cells : List Cell) (firsts seconds : List Bool) (i : ℕ) (cell : Cell
         ∙ (sym (map-set second_in (states_by cells firsts seconds) i state) ∙ ap (map second_in) (sym states-put));
   }
 
+-- a cell that can keep a full state keeps its first bit alone
+droc-keeps : (cell : Cell) (first second : Bool) → IsStateOf cell full → state_by cell first second ≡ record { held = Rest; bit = first }
+droc-keeps (La a b out) first second fits = absurd cc
+droc-keeps (Fa a b out) first second fits = absurd cc
+droc-keeps (Split from left right) first second fits = let clear = fits.1 in absurd cc
+droc-keeps (Droc role preload feed q n) first second fits = refl
+
+module _ (cells : List Cell) (firsts seconds : List Bool) (i : ℕ) (cell : Cell) (at : slice_get cells i ≡ Some cell) (fits : IsStateOf cell full)
+    (packed : ArePacked cells firsts seconds) where
+  abbrev droc-before : CellState
+  droc-before = record { held = Rest; bit = get_or firsts i false }
+
+  droc-there : slice_get (states_by cells firsts seconds) i ≡ Some droc-before
+  droc-there =
+      let inside = slice_get_within cells i cell at in
+      let one = packed.one_first in
+      let two = packed.one_second in
+      states-at cells firsts seconds i cell _ _ at (slice_get-get_or firsts i false (omega arith)) (slice_get-get_or seconds i false (omega arith))
+      ∙ ap (λ s. Some s) (droc-keeps cell (get_or firsts i false) (get_or seconds i false) fits)
+
+  second-stays : slice_set seconds i false ≡ seconds
+  second-stays =
+      ap (λ bits. slice_set bits i false) packed.seconds_are
+      ∙ (sym (map-set second_in (states_by cells firsts seconds) i droc-before)
+      ∙ (ap (map second_in) (set-here (states_by cells firsts seconds) i droc-before droc-there) ∙ sym packed.seconds_are))
+
+  -- the first bit set alone fills it
+  pub packed-fill : ArePacked cells (slice_set firsts i true) seconds
+  packed-fill = subst (λ bits. ArePacked cells (slice_set firsts i true) bits) second-stays (packed-put cells firsts seconds i cell full at fits packed)
+
+  pub states-fill : (before : CellState) × (slice_get (states_by cells firsts seconds) i ≡ Some before)
+      × (states_by cells (slice_set firsts i true) seconds ≡ slice_set (states_by cells firsts seconds) i (record before { bit = true }))
+  states-fill = (
+    droc-before,
+    droc-there,
+    subst (λ bits. states_by cells (slice_set firsts i true) bits ≡ slice_set (states_by cells firsts seconds) i full) second-stays
+        (states-put cells firsts seconds i cell full at fits),
+  )
+
 -- where all bits are 0, no cell keeps anything
 zeros-keep : (cell : Cell) → state_by cell false false ≡ nothing_kept cell
 zeros-keep (La a b out) = refl
@@ -131,54 +172,6 @@ preloaded-fits (Fa a b out) = refl
 preloaded-fits (Split from left right) = (refl, refl)
 preloaded-fits (Droc role preload feed q n) = refl
 
-pub cleared-fits : (cell : Cell) (state : CellState) → IsStateOf cell state → IsStateOf cell (cleared state)
-cleared-fits (La a b out) state fits = refl
-cleared-fits (Fa a b out) state fits = refl
-cleared-fits (Split from left right) state fits = (fits.0, refl)
-cleared-fits (Droc role preload feed q n) state fits = fits
-
-gate-fits : (out : ℕ) (state : CellState) (line : Option (Held × Bool)) (reacted : Reaction) → gate_step out state line ≡ Some reacted → state.bit ≡ false
-    → reacted.cell_state.bit ≡ false
-gate-fits out state None reacted e clear = absurd cc
-gate-fits out state (Some line) reacted e clear =
-    let is : record { cell_state = record state { held = line.0 }; emitted = if line.1 then out ∷ [] else [] } ≡ reacted = cc in
-    subst (λ (r : Reaction). r.cell_state.bit ≡ false) is clear
-
-droc-fits : (state : CellState) (bit : Option Bool) (reacted : Reaction) → droc_step state bit ≡ Some reacted → state.held ≡ Rest → reacted.cell_state.held ≡ Rest
-droc-fits state None reacted e rests = absurd cc
-droc-fits state (Some bit) reacted e rests =
-    let is : record { cell_state = record state { bit = bit }; emitted = [] } ≡ reacted = cc in
-    subst (λ (r : Reaction). r.cell_state.held ≡ Rest) is rests
-
-split-fits : (state : CellState) (emitted : List ℕ) (reacted : Reaction) → Some (record { cell_state = state; emitted = emitted }) ≡ Some reacted
-    → (state.held ≡ Rest) × (state.bit ≡ false) → (reacted.cell_state.held ≡ Rest) × (reacted.cell_state.bit ≡ false)
-split-fits state emitted reacted e rests =
-    let is : record { cell_state = state; emitted = emitted } ≡ reacted = cc in
-    subst (λ (r : Reaction). (r.cell_state.held ≡ Rest) × (r.cell_state.bit ≡ false)) is rests
-
-pub reacted-fits : (cell : Cell) (state : CellState) (reader : Reader) (reacted : Reaction) → port_reaction cell state reader ≡ Some reacted → IsStateOf cell state
-    → IsStateOf cell reacted.cell_state
-reacted-fits (La a b out) state (A id) reacted e fits = gate-fits out.number state (arrival gates.La state.held ports.A) reacted e fits
-reacted-fits (La a b out) state (B id) reacted e fits = gate-fits out.number state (arrival gates.La state.held ports.B) reacted e fits
-reacted-fits (La a b out) state (From id) reacted e fits = absurd cc
-reacted-fits (La a b out) state (Feed id) reacted e fits = absurd cc
-reacted-fits (La a b out) state (Output id) reacted e fits = absurd cc
-reacted-fits (Fa a b out) state (A id) reacted e fits = gate-fits out.number state (arrival gates.Fa state.held ports.A) reacted e fits
-reacted-fits (Fa a b out) state (B id) reacted e fits = gate-fits out.number state (arrival gates.Fa state.held ports.B) reacted e fits
-reacted-fits (Fa a b out) state (From id) reacted e fits = absurd cc
-reacted-fits (Fa a b out) state (Feed id) reacted e fits = absurd cc
-reacted-fits (Fa a b out) state (Output id) reacted e fits = absurd cc
-reacted-fits (Split from left right) state (A id) reacted e fits = absurd cc
-reacted-fits (Split from left right) state (B id) reacted e fits = absurd cc
-reacted-fits (Split from left right) state (From id) reacted e fits = split-fits state (left.number ∷ right.number ∷ []) reacted e fits
-reacted-fits (Split from left right) state (Feed id) reacted e fits = absurd cc
-reacted-fits (Split from left right) state (Output id) reacted e fits = absurd cc
-reacted-fits (Droc role preload feed q n) state (A id) reacted e fits = absurd cc
-reacted-fits (Droc role preload feed q n) state (B id) reacted e fits = absurd cc
-reacted-fits (Droc role preload feed q n) state (From id) reacted e fits = absurd cc
-reacted-fits (Droc role preload feed q n) state (Feed id) reacted e fits = droc-fits state (fed state.bit) reacted e fits
-reacted-fits (Droc role preload feed q n) state (Output id) reacted e fits = absurd cc
-
 -- the first so many cells keep what they do at the start, and the others nothing
 abbrev pub preloaded_to : ℕ → List Cell → List CellState
 preloaded_to n [] = []
@@ -207,12 +200,6 @@ preloaded-all (cell ∷ cells) zero e = absurd (omega arith)
 preloaded-all (cell ∷ cells) (suc n) e = ap (λ ss. preloaded cell ∷ ss) (preloaded-all cells n (omega arith))
 
 -- a state whose bit is 0 stays as it is where it is cleared
-set-here : (xs : List CellState) (i : ℕ) (x : CellState) → slice_get xs i ≡ Some x → slice_set xs i x ≡ xs
-set-here [] zero x e = refl
-set-here [] (suc i) x e = refl
-set-here (y ∷ xs) zero x e = let same : x ≡ y = cc in ap (λ z. z ∷ xs) same
-set-here (y ∷ xs) (suc i) x e = ap (λ ys. y ∷ ys) (set-here xs i x e)
-
 pub clear-stays : (xs : List CellState) (i : ℕ) (x : CellState) → slice_get xs i ≡ Some x → x.bit ≡ false → slice_set xs i (cleared x) ≡ xs
 clear-stays xs i x e clear =
     let same : cleared x ≡ x = ap (λ bit. record x { bit = bit }) (sym clear) in ap (slice_set xs i) same ∙ set-here xs i x e

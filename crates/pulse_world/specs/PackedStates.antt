@@ -18,6 +18,10 @@ IsStateOf (Fa a b out) state = state.bit ≡ false
 IsStateOf (Split from left right) state = (state.held ≡ Rest) × (state.bit ≡ false)
 IsStateOf (Droc role preload feed q n) state = state.held ≡ Rest
 
+-- a DROC whose bit is 1
+abbrev pub full : CellState
+full = record { held = Rest; bit = true }
+
 -- what an LA or FA holds by its two bits: at 00 it rests, at 10 it holds a pulse of `a`, and at 01 one of `b`
 abbrev pub held_by : Bool → Bool → Held
 held_by false false = Rest

@@ -1,9 +1,9 @@
 //! What the cells keep between pulses, in two bits a cell.
 
-ghost use Rattle.std.specs.Prelude.{◌≡◌, ◌<◌, Some, map, length, IfOk, slice_get, slice_set};
+ghost use Rattle.std.specs.Prelude.{◌≡◌, ◌<◌, true, Some, map, length, IfOk, slice_get, slice_set};
 ghost use Rattle.cell_netlist.specs.declared.lines.Cell.{Cell};
 ghost use Rattle.cell_netlist.specs.World.{preloaded};
-ghost use Rattle.pulse_world.specs.PackedStates.{IsStateOf, held_by, state_by, first_in, second_in, nothing_kept};
+ghost use Rattle.pulse_world.specs.PackedStates.{IsStateOf, held_by, state_by, first_in, second_in, nothing_kept, full};
 
 use cell_netlist::{Cell, CellState, Held};
 use pulse_ids::{Bits, CellId, Ident, NoMemory, Row};
@@ -75,6 +75,23 @@ impl<'a> CellStates<'a> {
             cell,
             unpacked(cell, self.firsts.get(id), self.seconds.get(id)),
         )
+    }
+
+    /// The cell with this number, which is below the length.
+    pub(crate) fn cell(&self, id: CellId) -> Cell
+        requires { id.number < length self.now.states }
+        ensures { slice_get self.now.cells id.number ≡ Some result }
+    {
+        *self.cells.get(id)
+    }
+
+    /// Sets the bit of the cell with this number, which is a DROC. All other cells keep theirs.
+    pub(crate) fn fill(&mut self, id: CellId)
+        requires { (cell : Cell) × (slice_get self.old.cells id.number ≡ Some cell) × IsStateOf cell full }
+        ensures { (before : CellState) × (slice_get self.old.states id.number ≡ Some before)
+            × (self.new ≡ record self.old { states = slice_set self.old.states id.number (record before { bit = true }) }) }
+    {
+        self.firsts.set(id, true);
     }
 
     /// Lets the cell with this number keep a state, which is one of those that it can keep. All other cells keep theirs.

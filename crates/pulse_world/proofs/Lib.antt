@@ -21,5 +21,6 @@ pub mod StateBits
 pub mod Reactions
 pub mod WorldMoments
 pub mod QueueRoom
+pub mod ClockedCells
 pub mod WorldDeliveries
 pub mod ReaderDeliveries

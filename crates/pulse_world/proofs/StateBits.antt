@@ -1,5 +1,5 @@
 -- What cells keep, by two bits a cell.
-use Rattle.std.proofs.Common.{◌≡◌, ◌∙◌, ◌+◌, ℕ, zero, suc, Bool, true, false, Some, List, [], ◌∷◌, map, length, replicate, slice_get, slice_set, get_or, ap, sym, subst, refl, arith}
+use Rattle.std.proofs.Common.{◌≡◌, ◌∙◌, ◌+◌, ◌<◌, ℕ, zero, suc, Bool, true, false, Some, List, [], ◌∷◌, map, length, replicate, slice_get, slice_set, get_or, ap, sym, subst, refl, arith}
 use Rattle.std.proofs.lemmas.List.{map-set}
 use Rattle.std.proofs.lemmas.Option.{slice_get_within, slice_get-get_or}
 use Rattle.cell_netlist.specs.declared.kinds.Held.{Held}
@@ -9,7 +9,7 @@ use Rattle.cell_netlist.specs.declared.lines.Cell.{Cell}
 use Rattle.cell_netlist.specs.declared.lines.Cell.TheVariants.{La, Fa, Split, Droc}
 use Rattle.cell_netlist.specs.World.{preloaded, cleared}
 use Rattle.cell_netlist.proofs.CallerLemmasOnLists.{set-length}
-use Rattle.pulse_world.specs.PackedStates.{IsStateOf, held_by, state_by, first_of, second_of, first_in, second_in, states_by, ArePacked, nothing_kept, full}
+use Rattle.pulse_world.specs.PackedStates.{IsStateOf, held_by, state_by, first_of, second_of, first_in, second_in, states_by, ArePacked, nothing_kept, is_droc, droc_with, packed_states, AreStatesOf}
 
 -- the bits of a state are read back as that state
 read-gate : (held : Held) (bit : Bool) → bit ≡ false
@@ -89,44 +89,75 @@ module _ (cells : List Cell) (firsts seconds : List Bool) (i : ℕ) (cell : Cell
         ∙ (sym (map-set second_in (states_by cells firsts seconds) i state) ∙ ap (map second_in) (sym states-put));
   }
 
--- a cell that can keep a full state keeps its first bit alone
-droc-keeps : (cell : Cell) (first second : Bool) → IsStateOf cell full → state_by cell first second ≡ record { held = Rest; bit = first }
-droc-keeps (La a b out) first second fits = absurd cc
-droc-keeps (Fa a b out) first second fits = absurd cc
-droc-keeps (Split from left right) first second fits = let clear = fits.1 in absurd cc
-droc-keeps (Droc role preload feed q n) first second fits = refl
+-- the state that bits say is one that the cell can keep
+by-fits : (cell : Cell) (first second : Bool) → IsStateOf cell (state_by cell first second)
+by-fits (La a b out) first second = refl
+by-fits (Fa a b out) first second = refl
+by-fits (Split from left right) first second = (refl, refl)
+by-fits (Droc role preload feed q n) first second = refl
 
-module _ (cells : List Cell) (firsts seconds : List Bool) (i : ℕ) (cell : Cell) (at : slice_get cells i ≡ Some cell) (fits : IsStateOf cell full)
-    (packed : ArePacked cells firsts seconds) where
-  abbrev droc-before : CellState
-  droc-before = record { held = Rest; bit = get_or firsts i false }
-
-  droc-there : slice_get (states_by cells firsts seconds) i ≡ Some droc-before
-  droc-there =
-      let inside = slice_get_within cells i cell at in
+pub states-fit : (cells : List Cell) (firsts seconds : List Bool) → ArePacked cells firsts seconds → AreStatesOf (packed_states cells firsts seconds)
+states-fit cells firsts seconds packed = record {
+  one_each = states-length cells firsts seconds packed.one_first packed.one_second;
+  fits = λ c cell state at there.
+      let inside = slice_get_within cells c cell at in
       let one = packed.one_first in
       let two = packed.one_second in
-      states-at cells firsts seconds i cell _ _ at (slice_get-get_or firsts i false (omega arith)) (slice_get-get_or seconds i false (omega arith))
-      ∙ ap (λ s. Some s) (droc-keeps cell (get_or firsts i false) (get_or seconds i false) fits)
+      let first = slice_get-get_or firsts c false (omega arith) in
+      let second = slice_get-get_or seconds c false (omega arith) in
+      let is = states-at cells firsts seconds c cell _ _ at first second in
+      let same : state_by cell (get_or firsts c false) (get_or seconds c false) ≡ state = cc in
+      subst (IsStateOf cell) same (by-fits cell (get_or firsts c false) (get_or seconds c false));
+}
 
-  second-stays : slice_set seconds i false ≡ seconds
-  second-stays =
+-- a DROC keeps its first bit alone
+droc-keeps : (cell : Cell) (first second : Bool) → is_droc cell ≡ true → state_by cell first second ≡ droc_with first
+droc-keeps (La a b out) first second droc = absurd cc
+droc-keeps (Fa a b out) first second droc = absurd cc
+droc-keeps (Split from left right) first second droc = absurd cc
+droc-keeps (Droc role preload feed q n) first second droc = refl
+
+droc-fits : (cell : Cell) (bit : Bool) → is_droc cell ≡ true → IsStateOf cell (droc_with bit)
+droc-fits (La a b out) bit droc = absurd cc
+droc-fits (Fa a b out) bit droc = absurd cc
+droc-fits (Split from left right) bit droc = absurd cc
+droc-fits (Droc role preload feed q n) bit droc = refl
+
+module _ (cells : List Cell) (firsts seconds : List Bool) (i : ℕ) (cell : Cell) (at : slice_get cells i ≡ Some cell) (droc : is_droc cell ≡ true)
+    (packed : ArePacked cells firsts seconds) where
+  first-inside : i < length firsts
+  first-inside = let inside = slice_get_within cells i cell at in let one = packed.one_first in omega arith
+
+  droc-there : (first : Bool) → slice_get firsts i ≡ Some first → slice_get (states_by cells firsts seconds) i ≡ Some (droc_with first)
+  droc-there first is =
+      let inside = slice_get_within cells i cell at in
+      let two = packed.one_second in
+      states-at cells firsts seconds i cell _ _ at is (slice_get-get_or seconds i false (omega arith))
+      ∙ ap (λ s. Some s) (droc-keeps cell first (get_or seconds i false) droc)
+
+  second-stays : (first : Bool) → slice_get firsts i ≡ Some first → slice_set seconds i false ≡ seconds
+  second-stays first is =
       ap (λ bits. slice_set bits i false) packed.seconds_are
-      ∙ (sym (map-set second_in (states_by cells firsts seconds) i droc-before)
-      ∙ (ap (map second_in) (set-here (states_by cells firsts seconds) i droc-before droc-there) ∙ sym packed.seconds_are))
+      ∙ (sym (map-set second_in (states_by cells firsts seconds) i (droc_with first))
+      ∙ (ap (map second_in) (set-here (states_by cells firsts seconds) i (droc_with first) (droc-there first is)) ∙ sym packed.seconds_are))
 
-  -- the first bit set alone fills it
-  pub packed-fill : ArePacked cells (slice_set firsts i true) seconds
-  packed-fill = subst (λ bits. ArePacked cells (slice_set firsts i true) bits) second-stays (packed-put cells firsts seconds i cell full at fits packed)
+  -- what the DROC keeps before and after its first bit is set, by what it was
+  pub record BitPut (first bit : Bool) : Type 0 where
+    pub packed_then : ArePacked cells (slice_set firsts i bit) seconds
+    pub there : slice_get (states_by cells firsts seconds) i ≡ Some (droc_with first)
+    pub put : states_by cells (slice_set firsts i bit) seconds ≡ slice_set (states_by cells firsts seconds) i (droc_with bit)
 
-  pub states-fill : (before : CellState) × (slice_get (states_by cells firsts seconds) i ≡ Some before)
-      × (states_by cells (slice_set firsts i true) seconds ≡ slice_set (states_by cells firsts seconds) i (record before { bit = true }))
-  states-fill = (
-    droc-before,
-    droc-there,
-    subst (λ bits. states_by cells (slice_set firsts i true) bits ≡ slice_set (states_by cells firsts seconds) i full) second-stays
-        (states-put cells firsts seconds i cell full at fits),
-  )
+  pub bit-put : (first bit : Bool) → slice_get firsts i ≡ Some first → BitPut first bit
+  bit-put first bit is = record {
+    packed_then = subst (λ bits. ArePacked cells (slice_set firsts i bit) bits) (second-stays first is)
+        (packed-put cells firsts seconds i cell (droc_with bit) at (droc-fits cell bit droc) packed);
+    there = droc-there first is;
+    put = subst (λ bits. states_by cells (slice_set firsts i bit) bits ≡ slice_set (states_by cells firsts seconds) i (droc_with bit)) (second-stays first is)
+        (states-put cells firsts seconds i cell (droc_with bit) at (droc-fits cell bit droc));
+  }
+
+  pub bit-there : slice_get firsts i ≡ Some (get_or firsts i false)
+  bit-there = slice_get-get_or firsts i false first-inside
 
 -- where all bits are 0, no cell keeps anything
 zeros-keep : (cell : Cell) → state_by cell false false ≡ nothing_kept cell

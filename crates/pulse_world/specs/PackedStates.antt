@@ -1,5 +1,6 @@
 -- The states of a netlist's cells in two bits a cell.
-use Rattle.std.specs.Prelude.{◌≡◌, ℕ, Bool, true, false, List, [], ◌∷◌, map, length, if◌then◌else◌}
+use Rattle.std.specs.Prelude.{◌≡◌, ◌+◌, ℕ, Bool, true, false, Some, List, [], ◌∷◌, map, length, slice_get, if◌then◌else◌}
+use Rattle.pulse_ids.specs.Ids.{CellId}
 use Rattle.cell_netlist.specs.declared.kinds.Held.{Held}
 use Rattle.cell_netlist.specs.declared.kinds.Held.TheVariants.{Rest, HasA, HasB}
 use Rattle.cell_netlist.specs.declared.kinds.CellState.{CellState}
@@ -18,9 +19,34 @@ IsStateOf (Fa a b out) state = state.bit ≡ false
 IsStateOf (Split from left right) state = (state.held ≡ Rest) × (state.bit ≡ false)
 IsStateOf (Droc role preload feed q n) state = state.held ≡ Rest
 
--- a DROC whose bit is 1
-abbrev pub full : CellState
-full = record { held = Rest; bit = true }
+-- what a DROC with this bit keeps
+abbrev pub droc_with : Bool → CellState
+droc_with bit = record { held = Rest; bit = bit }
+
+-- There is one state a cell, and each is one that its cell can keep.
+pub record AreStatesOf (kept : PlainStates) : Type 0 where
+  pub one_each : length kept.states ≡ length kept.cells
+  pub fits : (c : ℕ) (cell : Cell) (state : CellState) → slice_get kept.cells c ≡ Some cell → slice_get kept.states c ≡ Some state → IsStateOf cell state
+
+-- whether a cell is a DROC
+abbrev pub is_droc : Cell → Bool
+is_droc (La a b out) = false
+is_droc (Fa a b out) = false
+is_droc (Split from left right) = false
+is_droc (Droc role preload feed q n) = true
+
+-- the cell of this number is one
+abbrev pub IsDrocAt : PlainStates → ℕ → Type 0
+IsDrocAt kept c = (cell : Cell) × (slice_get kept.cells c ≡ Some cell) × (is_droc cell ≡ true)
+
+-- the numbers of the DROCs among cells that are numbered from the first one's number
+abbrev pub drocs_from : ℕ → List Cell → List ℕ
+drocs_from c [] = []
+drocs_from c (cell ∷ cells) = if is_droc cell then c ∷ drocs_from (c + 1) cells else drocs_from (c + 1) cells
+
+-- the numbers of these cells
+abbrev pub numbers_in : List CellId → List ℕ
+numbers_in ids = map (λ id. id.number) ids
 
 -- what an LA or FA holds by its two bits: at 00 it rests, at 10 it holds a pulse of `a`, and at 01 one of `b`
 abbrev pub held_by : Bool → Bool → Held

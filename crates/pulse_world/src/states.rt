@@ -2,9 +2,10 @@
 
 ghost use Rattle.std.specs.Prelude.{◌≡◌, ◌<◌, true, Some, map, length, IfOk, slice_get, slice_set};
 ghost use Rattle.cell_netlist.specs.declared.lines.Cell.{Cell};
-ghost use Rattle.cell_netlist.specs.World.{preloaded};
-ghost use Rattle.pulse_world.specs.PackedStates.{IsStateOf, held_by, state_by, first_in, second_in, nothing_kept, full};
+ghost use Rattle.cell_netlist.specs.World.{preloaded, cleared};
+ghost use Rattle.pulse_world.specs.PackedStates.{IsStateOf, held_by, state_by, first_in, second_in, nothing_kept, AreStatesOf, IsDrocAt, drocs_from};
 
+use crate::drocs::drocs_of;
 use cell_netlist::{Cell, CellState, Held};
 use pulse_ids::{Bits, CellId, Ident, NoMemory, Row};
 use std::alloc::Global;
@@ -16,18 +17,21 @@ use std::marker::Model;
 #[derive(Debug, Drop)]
 pub(crate) struct CellStates<'a> {
     cells: &'a Row<CellId, Cell>,
+    // The DROCs, by rising numbers.
+    drocs: Vec<CellId>,
     firsts: Bits<CellId>,
     seconds: Bits<CellId>,
 }
 
 impl<'a> Model for CellStates<'a> {
-    ghost use Rattle.pulse_world.specs.PackedStates.{PlainStates, packed_states, ArePacked};
+    ghost use Rattle.std.specs.Prelude.{◌≡◌};
+    ghost use Rattle.pulse_world.specs.PackedStates.{PlainStates, packed_states, ArePacked, drocs_from, numbers_in};
 
     ghost Value = { PlainStates };
 
     ghost view = { λ kept. packed_states kept.cells.now kept.firsts kept.seconds };
 
-    ghost invariant = { λ kept. ArePacked kept.cells.now kept.firsts kept.seconds };
+    ghost invariant = { λ kept. ArePacked kept.cells.now kept.firsts kept.seconds × (numbers_in kept.drocs.items ≡ drocs_from 0 kept.cells.now) };
 }
 
 impl<'a> CellStates<'a> {
@@ -47,10 +51,12 @@ impl<'a> CellStates<'a> {
     fn empty(alloc: Global, cells: &'a Row<CellId, Cell>) -> Result<CellStates<'a>, NoMemory>
         ensures { IfOk result (λ kept. kept ≡ record { cells = cells.now; states = map nothing_kept cells.now }) }
     {
+        let drocs = drocs_of(alloc, cells)?;
         let firsts = Bits::filled(alloc, cells.len())?;
         let seconds = Bits::filled(alloc, cells.len())?;
         Ok(CellStates {
             cells,
+            drocs,
             firsts,
             seconds,
         })
@@ -61,6 +67,22 @@ impl<'a> CellStates<'a> {
         ensures { result ≡ length self.now.states }
     {
         self.cells.len()
+    }
+
+    /// How many cells are DROCs.
+    pub(crate) fn drocs(&self) -> usize
+        ensures count { result ≡ length (drocs_from 0 self.now.cells) }
+        ensures fit { AreStatesOf self.now }
+    {
+        self.drocs.len()
+    }
+
+    /// The number of a DROC, by its place among the DROCs.
+    pub(crate) fn droc(&self, place: usize) -> CellId
+        requires { place < length (drocs_from 0 self.now.cells) }
+        ensures { slice_get (drocs_from 0 self.now.cells) place ≡ Some result.number }
+    {
+        self.drocs[place]
     }
 
     /// The cell with this number, which is below the length, and what it keeps.
@@ -79,7 +101,7 @@ impl<'a> CellStates<'a> {
 
     /// The cell with this number, which is below the length.
     pub(crate) fn cell(&self, id: CellId) -> Cell
-        requires { id.number < length self.now.states }
+        requires { id.number < length self.now.cells }
         ensures { slice_get self.now.cells id.number ≡ Some result }
     {
         *self.cells.get(id)
@@ -87,11 +109,22 @@ impl<'a> CellStates<'a> {
 
     /// Sets the bit of the cell with this number, which is a DROC. All other cells keep theirs.
     pub(crate) fn fill(&mut self, id: CellId)
-        requires { (cell : Cell) × (slice_get self.old.cells id.number ≡ Some cell) × IsStateOf cell full }
+        requires { IsDrocAt self.old id.number }
         ensures { (before : CellState) × (slice_get self.old.states id.number ≡ Some before)
             × (self.new ≡ record self.old { states = slice_set self.old.states id.number (record before { bit = true }) }) }
     {
         self.firsts.set(id, true);
+    }
+
+    /// The bit of the cell with this number, which is a DROC. It becomes 0. All other cells keep theirs.
+    pub(crate) fn take_bit(&mut self, id: CellId) -> bool
+        requires { IsDrocAt self.old id.number }
+        ensures { (before : CellState) × (slice_get self.old.states id.number ≡ Some before) × (result ≡ before.bit)
+            × (self.new ≡ record self.old { states = slice_set self.old.states id.number (cleared before) }) }
+    {
+        let bit = self.firsts.get(id);
+        self.firsts.set(id, false);
+        bit
     }
 
     /// Lets the cell with this number keep a state, which is one of those that it can keep. All other cells keep theirs.

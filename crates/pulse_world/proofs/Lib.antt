@@ -18,6 +18,8 @@ pub mod UnsoundExamples
 pub mod QueuePlaces
 pub mod QueueMarks
 pub mod StateBits
+pub mod PulsedGates
+pub mod PreloadedStates
 pub mod Reactions
 pub mod WorldMoments
 pub mod QueueRoom

@@ -24,10 +24,6 @@ wires_of Nothing = []
 wires_of (One wire) = wire.number ∷ []
 wires_of (Two first later) = first.number ∷ later.number ∷ []
 
--- what a cell keeps and emits
-abbrev pub reaction_of : CellState × Emitted → Reaction
-reaction_of pair = record { cell_state = pair.0; emitted = wires_of pair.1 }
-
 -- the cell or the output rail of a reader
 abbrev pub target_at : Reader → Target
 target_at (readers.A id) = targets.Cell id

@@ -117,8 +117,9 @@ fn clock_at(cell_states: &mut CellStates<'_>, id: CellId) -> Option<WireId>
         × (slice_get cell_states.old.states id.number ≡ Some before) × (used result ≡ clocked cell before.bit)
         × (cell_states.new ≡ record cell_states.old { states = slice_set cell_states.old.states id.number (cleared before) }) }
 {
-    let cell = cell_states.cell(id);
-    clock_cell(cell, cell_states.take_bit(id))
+    let bit = cell_states.bit(id);
+    cell_states.set_bit(id, false);
+    clock_cell(cell_states.cell(id), bit)
 }
 
 // The wire on which the phase clock makes a cell emit.

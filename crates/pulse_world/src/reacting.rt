@@ -1,13 +1,15 @@
 //! What a cell does at a pulse on one of its ports.
 
-ghost use Rattle.std.specs.Prelude.{◌≡◌, option_map};
+ghost use Rattle.std.specs.Prelude.{◌≡◌, Some, if◌then◌else◌};
+ghost use Rattle.cell_netlist.specs.declared.kinds.Held.TheVariants.{Rest};
+ghost use Rattle.cell_netlist.specs.declared.kinds.Port.{Port};
 ghost use Rattle.cell_netlist.specs.declared.lines.Reader.TheVariants.{From};
 ghost use Rattle.cell_netlist.specs.Tables.{arrival};
-ghost use Rattle.cell_netlist.specs.World.{gate_step};
-ghost use Rattle.pulse_world.specs.Reacting.{gate_in, port_of, target_at, reaction_of, Reacts, HasReacted};
+ghost use Rattle.pulse_world.specs.PackedStates.{held_of, other_port};
+ghost use Rattle.pulse_world.specs.Reacting.{gate_in, port_of, target_at, Reacts, HasReacted};
 
 use crate::states::CellStates;
-use cell_netlist::{Cell, CellState, Gate, Port, Reader, arrive};
+use cell_netlist::{Cell, Gate, Port, Reader};
 use pulse_ids::{CellId, RailId, WireId};
 
 /// The wires on which a cell emits, in order.
@@ -46,7 +48,7 @@ pub(crate) fn react_at(cell_states: &mut CellStates<'_>, id: CellId, reader: Rea
         Reader::B(_) => react_gate_at(cell_states, id, Port::B),
         Reader::From(_) => split_at(cell_states, id),
         Reader::Feed(_) => {
-            cell_states.fill(id);
+            cell_states.set_bit(id, true);
             Emitted::Nothing
         }
         Reader::Output(_) => unreachable!(),
@@ -69,15 +71,15 @@ fn react_gate_at(cell_states: &mut CellStates<'_>, id: CellId, port: Port) -> Em
     requires { Reacts cell_states.old id.number (port_of port id) }
     ensures { HasReacted cell_states.old cell_states.new id.number (port_of port id) result }
 {
-    let (cell, before) = cell_states.at(id);
-    let Some((gate, out)) = gate_of(cell) else {
+    let Some((gate, out)) = gate_of(cell_states.cell(id)) else {
         unreachable!()
     };
-    let Some((next, emitted)) = react_gate(gate, before, port, out) else {
-        unreachable!()
-    };
-    cell_states.set(id, next);
-    emitted
+    let met = cell_states.pulse(id, port);
+    if emits(gate, met) {
+        Emitted::One(out)
+    } else {
+        Emitted::Nothing
+    }
 }
 
 // The gate that a cell is, and its output. None for a splitter or a DROC.
@@ -91,26 +93,9 @@ fn gate_of(cell: Cell) -> Option<(Gate, WireId)>
     }
 }
 
-// What a gate keeps and emits after a pulse on a port. None exactly where its table has no entry.
-fn react_gate(
-    gate: Gate,
-    before: CellState,
-    port: Port,
-    out: WireId,
-) -> Option<(CellState, Emitted)>
-    ensures { option_map reaction_of result ≡ gate_step out.number before (arrival gate before.held port) }
+// Whether a gate emits at a pulse on a port, by whether it held one of the other port.
+fn emits(gate: Gate, met: bool) -> bool
+    ensures { (port : Port) → arrival gate (if met then held_of (other_port port) else Rest) port ≡ Some (if met then Rest else held_of port, result) }
 {
-    let (held, emits) = arrive(gate, before.held, port)?;
-    let emitted = if emits {
-        Emitted::One(out)
-    } else {
-        Emitted::Nothing
-    };
-    Some((
-        CellState {
-            held,
-            bit: before.bit,
-        },
-        emitted,
-    ))
+    met == (gate == Gate::La)
 }

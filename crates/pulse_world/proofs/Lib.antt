@@ -18,8 +18,11 @@ pub mod UnsoundExamples
 pub mod QueuePlaces
 pub mod QueueMarks
 pub mod StateBits
+pub mod PulsedGates
+pub mod PreloadedStates
 pub mod Reactions
 pub mod WorldMoments
 pub mod QueueRoom
+pub mod ClockedCells
 pub mod WorldDeliveries
 pub mod ReaderDeliveries

@@ -1,91 +1,178 @@
 -- What cells keep, by two bits a cell.
-use Rattle.std.proofs.Common.{◌≡◌, ◌∙◌, ◌+◌, ℕ, zero, suc, Bool, true, false, Option, Some, None, List, [], ◌∷◌, map, length, replicate, slice_get, slice_set, ap, sym, subst, refl, arith, if◌then◌else◌}
-use Rattle.std.proofs.lemmas.List.{map-set}
-use Rattle.cell_netlist.specs.declared.kinds.Gate.TheVariants as gates
-use Rattle.cell_netlist.specs.declared.kinds.Port.TheVariants as ports
-use Rattle.cell_netlist.specs.declared.kinds.Held.{Held}
-use Rattle.cell_netlist.specs.declared.kinds.Held.TheVariants.{Rest, HasA, HasB}
+use Rattle.std.proofs.Common.{◌≡◌, ◌∙◌, ◌+◌, ◌*◌, ◌<◌, ◌^◌, ℕ, zero, suc, Bool, true, false, Some, List, [], ◌∷◌, map, length, replicate, slice_get, slice_set, get_or, ap, sym, subst, refl, inl, inr, arith}
+use Rattle.std.proofs.lemmas.Bool.{cases_eq}
+use Rattle.std.proofs.lemmas.Option.{slice_get_within, slice_get-get_or}
+use Rattle.cell_netlist.specs.declared.kinds.Port.TheVariants.{A, B}
 use Rattle.cell_netlist.specs.declared.kinds.CellState.{CellState}
 use Rattle.cell_netlist.specs.declared.lines.Cell.{Cell}
 use Rattle.cell_netlist.specs.declared.lines.Cell.TheVariants.{La, Fa, Split, Droc}
-use Rattle.cell_netlist.specs.declared.lines.Reader.{Reader}
-use Rattle.cell_netlist.specs.declared.lines.Reader.TheVariants.{A, B, From, Feed, Output}
-use Rattle.cell_netlist.specs.OneReader.{port_reaction}
-use Rattle.cell_netlist.specs.Tables.{arrival, fed}
-use Rattle.cell_netlist.specs.World.{Reaction, preloaded, cleared, gate_step, droc_step}
-use Rattle.cell_netlist.proofs.CallerLemmasOnLists.{set-length}
-use Rattle.pulse_world.specs.PackedStates.{IsStateOf, held_by, state_by, first_of, second_of, first_in, second_in, states_by, ArePacked, nothing_kept}
+use Rattle.cell_netlist.specs.World.{cleared}
+use Rattle.cell_netlist.proofs.CallerLemmasOnLists.{set-length, set-same, set-other}
+use Rattle.pulse_world.specs.PackedStates.{IsStateOf, state_by, bit_place, states_by, packed_states, ArePacked, AreStatesOf, nothing_kept, is_droc}
 
--- the bits of a state are read back as that state
-read-gate : (held : Held) (bit : Bool) → bit ≡ false
-    → ◌≡◌ {A = CellState} (record { held = held_by (first_of held bit) (second_of held); bit = false }) (record { held = held; bit = bit })
-read-gate Rest false e = refl
-read-gate HasA false e = refl
-read-gate HasB false e = refl
-read-gate held true e = absurd cc
+-- a state set where it stands
+pub set-here : (xs : List CellState) (i : ℕ) (x : CellState) → slice_get xs i ≡ Some x → slice_set xs i x ≡ xs
+set-here [] zero x e = refl
+set-here [] (suc i) x e = refl
+set-here (y ∷ xs) zero x e = let same : x ≡ y = cc in ap (λ z. z ∷ xs) same
+set-here (y ∷ xs) (suc i) x e = ap (λ ys. y ∷ ys) (set-here xs i x e)
 
-read-droc : (held : Held) (bit : Bool) → held ≡ Rest → ◌≡◌ {A = CellState} (record { held = Rest; bit = first_of held bit }) (record { held = held; bit = bit })
-read-droc Rest bit e = refl
-read-droc HasA bit e = absurd cc
-read-droc HasB bit e = absurd cc
+-- the place of a cell's first bit, as a list counts it
+abbrev twice : ℕ → ℕ
+twice zero = zero
+twice (suc n) = suc (suc (twice n))
 
-read-split : (state : CellState) → state.held ≡ Rest → state.bit ≡ false → record { held = Rest; bit = false } ≡ state
-read-split state rests clear = rw (rests, clear) refl
+twice-is : (n : ℕ) → twice n ≡ 2 * n
+twice-is zero = refl
+twice-is (suc n) = let less = twice-is n in omega arith
 
-pub bits-read : (cell : Cell) (state : CellState) → IsStateOf cell state → state_by cell (first_in state) (second_in state) ≡ state
-bits-read (La a b out) state fits = read-gate state.held state.bit fits
-bits-read (Fa a b out) state fits = read-gate state.held state.bit fits
-bits-read (Split from left right) state fits = read-split state fits.0 fits.1
-bits-read (Droc role preload feed q n) state fits = read-droc state.held state.bit fits
+behind-is : (n : ℕ) → suc (twice n) ≡ 2 * n + 1
+behind-is n = let same = twice-is n in omega arith
 
 -- one state a cell
-pub states-length : (cells : List Cell) (firsts seconds : List Bool) → length firsts ≡ length cells → length seconds ≡ length cells
-    → length (states_by cells firsts seconds) ≡ length cells
-states-length [] firsts seconds e f = refl
-states-length (cell ∷ cells) [] seconds e f = absurd (omega arith)
-states-length (cell ∷ cells) (first ∷ firsts) [] e f = absurd (omega arith)
-states-length (cell ∷ cells) (first ∷ firsts) (second ∷ seconds) e f = ap (λ n. suc n) (states-length cells firsts seconds (omega arith) (omega arith))
+pub states-length : (cells : List Cell) (bits : List Bool) → length bits ≡ 2 * length cells → length (states_by cells bits) ≡ length cells
+states-length [] bits e = refl
+states-length (cell ∷ cells) [] e = absurd (omega arith)
+states-length (cell ∷ cells) (first ∷ []) e = absurd (omega arith)
+states-length (cell ∷ cells) (first ∷ second ∷ bits) e = ap (λ n. suc n) (states-length cells bits (omega arith))
 
--- the state at a place is that of the cell and the bits at the place
-pub states-at : (cells : List Cell) (firsts seconds : List Bool) (i : ℕ) (cell : Cell) (first second : Bool) → slice_get cells i ≡ Some cell
-    → slice_get firsts i ≡ Some first → slice_get seconds i ≡ Some second → slice_get (states_by cells firsts seconds) i ≡ Some (state_by cell first second)
-states-at [] firsts seconds zero cell first second c f s = absurd cc
-states-at [] firsts seconds (suc i) cell first second c f s = absurd cc
-states-at (x ∷ cells) [] seconds zero cell first second c f s = absurd cc
-states-at (x ∷ cells) [] seconds (suc i) cell first second c f s = absurd cc
-states-at (x ∷ cells) (y ∷ firsts) [] zero cell first second c f s = absurd cc
-states-at (x ∷ cells) (y ∷ firsts) [] (suc i) cell first second c f s = absurd cc
-states-at (x ∷ cells) (y ∷ firsts) (z ∷ seconds) zero cell first second c f s =
+-- the state at a place is that of the cell and its two bits
+state-at : (cells : List Cell) (bits : List Bool) (i : ℕ) (cell : Cell) (first second : Bool) → slice_get cells i ≡ Some cell
+    → slice_get bits (twice i) ≡ Some first → slice_get bits (suc (twice i)) ≡ Some second → slice_get (states_by cells bits) i ≡ Some (state_by cell first second)
+state-at [] bits zero cell first second c f s = absurd cc
+state-at [] bits (suc i) cell first second c f s = absurd cc
+state-at (x ∷ cells) [] zero cell first second c f s = absurd cc
+state-at (x ∷ cells) [] (suc i) cell first second c f s = absurd cc
+state-at (x ∷ cells) (y ∷ []) zero cell first second c f s = absurd cc
+state-at (x ∷ cells) (y ∷ []) (suc i) cell first second c f s = absurd cc
+state-at (x ∷ cells) (y ∷ z ∷ bits) zero cell first second c f s =
     let same : x ≡ cell = cc in let one : y ≡ first = cc in let two : z ≡ second = cc in rw (same, one, two) refl
-states-at (x ∷ cells) (y ∷ firsts) (z ∷ seconds) (suc i) cell first second c f s = states-at cells firsts seconds i cell first second c f s
+state-at (x ∷ cells) (y ∷ z ∷ bits) (suc i) cell first second c f s = state-at cells bits i cell first second c f s
 
--- other bits at a place
-pub states-set : (cells : List Cell) (firsts seconds : List Bool) (i : ℕ) (cell : Cell) (first second : Bool) → slice_get cells i ≡ Some cell
-    → states_by cells (slice_set firsts i first) (slice_set seconds i second) ≡ slice_set (states_by cells firsts seconds) i (state_by cell first second)
-states-set [] firsts seconds zero cell first second c = absurd cc
-states-set [] firsts seconds (suc i) cell first second c = absurd cc
-states-set (x ∷ cells) [] seconds zero cell first second c = refl
-states-set (x ∷ cells) [] seconds (suc i) cell first second c = refl
-states-set (x ∷ cells) (y ∷ firsts) [] zero cell first second c = refl
-states-set (x ∷ cells) (y ∷ firsts) [] (suc i) cell first second c = refl
-states-set (x ∷ cells) (y ∷ firsts) (z ∷ seconds) zero cell first second c =
-    let same : x ≡ cell = cc in ap (λ k. state_by k first second ∷ states_by cells firsts seconds) same
-states-set (x ∷ cells) (y ∷ firsts) (z ∷ seconds) (suc i) cell first second c = ap (λ ss. state_by x y z ∷ ss) (states-set cells firsts seconds i cell first second c)
+pub state-read : (cells : List Cell) (bits : List Bool) (i : ℕ) (cell : Cell) (first second : Bool) → slice_get cells i ≡ Some cell
+    → slice_get bits (bit_place i A) ≡ Some first → slice_get bits (bit_place i B) ≡ Some second → slice_get (states_by cells bits) i ≡ Some (state_by cell first second)
+state-read cells bits i cell first second at f s =
+    state-at cells bits i cell first second at (subst (λ k. slice_get bits k ≡ Some first) (sym (twice-is i)) f) (subst (λ k. slice_get bits k ≡ Some second) (sym (behind-is i)) s)
 
-module _ (cells : List Cell) (firsts seconds : List Bool) (i : ℕ) (cell : Cell) (state : CellState) (at : slice_get cells i ≡ Some cell) (fits : IsStateOf cell state) where
-  -- a cell's bits are set to those of a state
-  pub states-put : states_by cells (slice_set firsts i (first_in state)) (slice_set seconds i (second_in state)) ≡ slice_set (states_by cells firsts seconds) i state
-  states-put = states-set cells firsts seconds i cell (first_in state) (second_in state) at ∙ ap (slice_set (states_by cells firsts seconds) i) (bits-read cell state fits)
+-- another first bit
+first-set : (cells : List Cell) (bits : List Bool) (i : ℕ) (cell : Cell) (bit second : Bool) → slice_get cells i ≡ Some cell
+    → slice_get bits (suc (twice i)) ≡ Some second
+    → states_by cells (slice_set bits (twice i) bit) ≡ slice_set (states_by cells bits) i (state_by cell bit second)
+first-set [] bits zero cell bit second c s = absurd cc
+first-set [] bits (suc i) cell bit second c s = absurd cc
+first-set (x ∷ cells) [] zero cell bit second c s = absurd cc
+first-set (x ∷ cells) [] (suc i) cell bit second c s = absurd cc
+first-set (x ∷ cells) (y ∷ []) zero cell bit second c s = absurd cc
+first-set (x ∷ cells) (y ∷ []) (suc i) cell bit second c s = absurd cc
+first-set (x ∷ cells) (y ∷ z ∷ bits) zero cell bit second c s =
+    let same : x ≡ cell = cc in let two : z ≡ second = cc in rw (same, two) refl
+first-set (x ∷ cells) (y ∷ z ∷ bits) (suc i) cell bit second c s = ap (λ ss. state_by x y z ∷ ss) (first-set cells bits i cell bit second c s)
 
-  pub packed-put : ArePacked cells firsts seconds → ArePacked cells (slice_set firsts i (first_in state)) (slice_set seconds i (second_in state))
-  packed-put packed = record {
-    one_first = set-length firsts i (first_in state) ∙ packed.one_first;
-    one_second = set-length seconds i (second_in state) ∙ packed.one_second;
-    firsts_are = ap (λ bits. slice_set bits i (first_in state)) packed.firsts_are
-        ∙ (sym (map-set first_in (states_by cells firsts seconds) i state) ∙ ap (map first_in) (sym states-put));
-    seconds_are = ap (λ bits. slice_set bits i (second_in state)) packed.seconds_are
-        ∙ (sym (map-set second_in (states_by cells firsts seconds) i state) ∙ ap (map second_in) (sym states-put));
+-- another second bit
+second-set : (cells : List Cell) (bits : List Bool) (i : ℕ) (cell : Cell) (first bit : Bool) → slice_get cells i ≡ Some cell
+    → slice_get bits (twice i) ≡ Some first → slice_get bits (suc (twice i)) ≡ Some (get_or bits (suc (twice i)) false)
+    → states_by cells (slice_set bits (suc (twice i)) bit) ≡ slice_set (states_by cells bits) i (state_by cell first bit)
+second-set [] bits zero cell first bit c f s = absurd cc
+second-set [] bits (suc i) cell first bit c f s = absurd cc
+second-set (x ∷ cells) [] zero cell first bit c f s = absurd cc
+second-set (x ∷ cells) [] (suc i) cell first bit c f s = absurd cc
+second-set (x ∷ cells) (y ∷ []) zero cell first bit c f s = absurd cc
+second-set (x ∷ cells) (y ∷ []) (suc i) cell first bit c f s = absurd cc
+second-set (x ∷ cells) (y ∷ z ∷ bits) zero cell first bit c f s =
+    let same : x ≡ cell = cc in let one : y ≡ first = cc in rw (same, one) refl
+second-set (x ∷ cells) (y ∷ z ∷ bits) (suc i) cell first bit c f s = ap (λ ss. state_by x y z ∷ ss) (second-set cells bits i cell first bit c f s)
+
+module _ (cells : List Cell) (bits : List Bool) (packed : ArePacked cells bits) (i : ℕ) (cell : Cell) (at : slice_get cells i ≡ Some cell) where
+  abbrev first_bit : Bool
+  first_bit = get_or bits (bit_place i A) false
+
+  abbrev second_bit : Bool
+  second_bit = get_or bits (bit_place i B) false
+
+  pub first-there : slice_get bits (bit_place i A) ≡ Some first_bit
+  first-there = let inside = slice_get_within cells i cell at in let long = packed.two_each in slice_get-get_or bits (bit_place i A) false (omega arith)
+
+  pub second-there : slice_get bits (bit_place i B) ≡ Some second_bit
+  second-there = let inside = slice_get_within cells i cell at in let long = packed.two_each in slice_get-get_or bits (bit_place i B) false (omega arith)
+
+  pub state-there : slice_get (states_by cells bits) i ≡ Some (state_by cell first_bit second_bit)
+  state-there = state-read cells bits i cell first_bit second_bit at first-there second-there
+
+  pub first-put : (bit : Bool) → states_by cells (slice_set bits (bit_place i A) bit) ≡ slice_set (states_by cells bits) i (state_by cell bit second_bit)
+  first-put bit = subst (λ k. states_by cells (slice_set bits k bit) ≡ slice_set (states_by cells bits) i (state_by cell bit second_bit)) (twice-is i)
+      (first-set cells bits i cell bit second_bit at (subst (λ k. slice_get bits k ≡ Some second_bit) (sym (behind-is i)) second-there))
+
+  pub second-put : (bit : Bool) → states_by cells (slice_set bits (bit_place i B) bit) ≡ slice_set (states_by cells bits) i (state_by cell first_bit bit)
+  second-put bit = subst (λ k. states_by cells (slice_set bits k bit) ≡ slice_set (states_by cells bits) i (state_by cell first_bit bit)) (behind-is i)
+      (second-set cells bits i cell first_bit bit at (subst (λ k. slice_get bits k ≡ Some first_bit) (sym (twice-is i)) first-there)
+      (subst (λ k. slice_get bits k ≡ Some (get_or bits k false)) (sym (behind-is i)) second-there))
+
+  -- a bit is put where not both are 1 then
+  pub packed-first : (bit : Bool) → (is_droc cell ≡ false → bit ≡ true → second_bit ≡ true → ⊥) → ArePacked cells (slice_set bits (bit_place i A) bit)
+  packed-first bit ok = record {
+    two_each = set-length bits (bit_place i A) bit ∙ packed.two_each;
+    few = packed.few;
+    apart = λ c other there plain a b. elim (cases_eq c i) [
+      | inl same ↦
+          let its : slice_get cells i ≡ Some other = subst (λ k. slice_get cells k ≡ Some other) same there in
+          let is : other ≡ cell = let e = at in cc in
+          let a_here : slice_get (slice_set bits (bit_place i A) bit) (bit_place i A) ≡ Some true =
+          subst (λ k. slice_get (slice_set bits (bit_place i A) bit) (bit_place k A) ≡ Some true) same a in
+          let b_here : slice_get (slice_set bits (bit_place i A) bit) (bit_place i B) ≡ Some true =
+          subst (λ k. slice_get (slice_set bits (bit_place i A) bit) (bit_place k B) ≡ Some true) same b in
+          let one = set-same bits (bit_place i A) bit (slice_get_within bits (bit_place i A) first_bit first-there) in
+          let two = set-other bits (bit_place i A) (bit_place i B) bit (λ e. absurd (omega arith)) in
+          let two_there = second-there in
+          let bit_is : bit ≡ true = cc in
+          let other_is : second_bit ≡ true = cc in
+          ok (subst (λ k. is_droc k ≡ false) is plain) bit_is other_is
+      | inr ne ↦
+          let one = set-other bits (bit_place i A) (bit_place c A) bit (λ e. ne (omega arith)) in
+          let two = set-other bits (bit_place i A) (bit_place c B) bit (λ e. absurd (omega arith)) in
+          packed.apart c other there plain (sym one ∙ a) (sym two ∙ b)
+    ];
   }
+
+  pub packed-second : (bit : Bool) → (is_droc cell ≡ false → first_bit ≡ true → bit ≡ true → ⊥) → ArePacked cells (slice_set bits (bit_place i B) bit)
+  packed-second bit ok = record {
+    two_each = set-length bits (bit_place i B) bit ∙ packed.two_each;
+    few = packed.few;
+    apart = λ c other there plain a b. elim (cases_eq c i) [
+      | inl same ↦
+          let its : slice_get cells i ≡ Some other = subst (λ k. slice_get cells k ≡ Some other) same there in
+          let is : other ≡ cell = let e = at in cc in
+          let a_here : slice_get (slice_set bits (bit_place i B) bit) (bit_place i A) ≡ Some true =
+          subst (λ k. slice_get (slice_set bits (bit_place i B) bit) (bit_place k A) ≡ Some true) same a in
+          let b_here : slice_get (slice_set bits (bit_place i B) bit) (bit_place i B) ≡ Some true =
+          subst (λ k. slice_get (slice_set bits (bit_place i B) bit) (bit_place k B) ≡ Some true) same b in
+          let one = set-other bits (bit_place i B) (bit_place i A) bit (λ e. absurd (omega arith)) in
+          let two = set-same bits (bit_place i B) bit (slice_get_within bits (bit_place i B) second_bit second-there) in
+          let one_there = first-there in
+          let other_is : first_bit ≡ true = cc in
+          let bit_is : bit ≡ true = cc in
+          ok (subst (λ k. is_droc k ≡ false) is plain) other_is bit_is
+      | inr ne ↦
+          let one = set-other bits (bit_place i B) (bit_place c A) bit (λ e. absurd (omega arith)) in
+          let two = set-other bits (bit_place i B) (bit_place c B) bit (λ e. ne (omega arith)) in
+          packed.apart c other there plain (sym one ∙ a) (sym two ∙ b)
+    ];
+  }
+
+-- the state that bits say is one that the cell can keep
+by-fits : (cell : Cell) (first second : Bool) → IsStateOf cell (state_by cell first second)
+by-fits (La a b out) first second = refl
+by-fits (Fa a b out) first second = refl
+by-fits (Split from left right) first second = (refl, refl)
+by-fits (Droc role preload feed q n) first second = refl
+
+pub states-fit : (cells : List Cell) (bits : List Bool) → ArePacked cells bits → AreStatesOf (packed_states cells bits)
+states-fit cells bits packed = record {
+  one_each = states-length cells bits packed.two_each;
+  fits = λ c cell state at there.
+      let is = state-there cells bits packed c cell at in
+      let same : state_by cell (get_or bits (bit_place c A) false) (get_or bits (bit_place c B) false) ≡ state = cc in
+      subst (IsStateOf cell) same (by-fits cell (get_or bits (bit_place c A) false) (get_or bits (bit_place c B) false));
+}
 
 -- where all bits are 0, no cell keeps anything
 zeros-keep : (cell : Cell) → state_by cell false false ≡ nothing_kept cell
@@ -94,125 +181,27 @@ zeros-keep (Fa a b out) = refl
 zeros-keep (Split from left right) = refl
 zeros-keep (Droc role preload feed q n) = refl
 
-pub states-empty : (cells : List Cell) (n m : ℕ) → n ≡ length cells → m ≡ length cells → states_by cells (replicate n false) (replicate m false) ≡ map nothing_kept cells
-states-empty [] n m e f = refl
-states-empty (cell ∷ cells) zero m e f = absurd (omega arith)
-states-empty (cell ∷ cells) (suc n) zero e f = absurd (omega arith)
-states-empty (cell ∷ cells) (suc n) (suc m) e f = rw (zeros-keep cell, states-empty cells n m (omega arith) (omega arith)) refl
+none-kept : (cells : List Cell) → states_by cells (replicate (twice (length cells)) false) ≡ map nothing_kept cells
+none-kept [] = refl
+none-kept (cell ∷ cells) = rw (zeros-keep cell, none-kept cells) refl
 
-zeros-of-first : (cells : List Cell) (n : ℕ) → n ≡ length cells → replicate n false ≡ map first_in (map nothing_kept cells)
-zeros-of-first [] zero e = refl
-zeros-of-first [] (suc n) e = absurd (omega arith)
-zeros-of-first (cell ∷ cells) zero e = absurd (omega arith)
-zeros-of-first (cell ∷ cells) (suc n) e = ap (λ bits. false ∷ bits) (zeros-of-first cells n (omega arith))
-
-zeros-of-second : (cells : List Cell) (n : ℕ) → n ≡ length cells → replicate n false ≡ map second_in (map nothing_kept cells)
-zeros-of-second [] zero e = refl
-zeros-of-second [] (suc n) e = absurd (omega arith)
-zeros-of-second (cell ∷ cells) zero e = absurd (omega arith)
-zeros-of-second (cell ∷ cells) (suc n) e = ap (λ bits. false ∷ bits) (zeros-of-second cells n (omega arith))
+pub states-empty : (cells : List Cell) (n : ℕ) → n ≡ 2 * length cells → states_by cells (replicate n false) ≡ map nothing_kept cells
+states-empty cells n e = subst (λ k. states_by cells (replicate k false) ≡ map nothing_kept cells) (twice-is (length cells) ∙ sym e) (none-kept cells)
 
 zeros-long : (n : ℕ) → length (replicate n false) ≡ n
 zeros-long zero = refl
 zeros-long (suc n) = ap (λ k. suc k) (zeros-long n)
 
-pub packed-empty : (cells : List Cell) (n m : ℕ) → n ≡ length cells → m ≡ length cells → ArePacked cells (replicate n false) (replicate m false)
-packed-empty cells n m e f = record {
-  one_first = zeros-long n ∙ e;
-  one_second = zeros-long m ∙ f;
-  firsts_are = zeros-of-first cells n e ∙ ap (map first_in) (sym (states-empty cells n m e f));
-  seconds_are = zeros-of-second cells m f ∙ ap (map second_in) (sym (states-empty cells n m e f));
-}
+zeros-get : (n i : ℕ) → slice_get (replicate n false) i ≡ Some true → ⊥
+zeros-get zero zero e = absurd cc
+zeros-get zero (suc i) e = absurd cc
+zeros-get (suc n) zero e = absurd cc
+zeros-get (suc n) (suc i) e = zeros-get n i e
 
--- the states that the world gives a cell are among those that it can keep
-pub preloaded-fits : (cell : Cell) → IsStateOf cell (preloaded cell)
-preloaded-fits (La a b out) = refl
-preloaded-fits (Fa a b out) = refl
-preloaded-fits (Split from left right) = (refl, refl)
-preloaded-fits (Droc role preload feed q n) = refl
-
-pub cleared-fits : (cell : Cell) (state : CellState) → IsStateOf cell state → IsStateOf cell (cleared state)
-cleared-fits (La a b out) state fits = refl
-cleared-fits (Fa a b out) state fits = refl
-cleared-fits (Split from left right) state fits = (fits.0, refl)
-cleared-fits (Droc role preload feed q n) state fits = fits
-
-gate-fits : (out : ℕ) (state : CellState) (line : Option (Held × Bool)) (reacted : Reaction) → gate_step out state line ≡ Some reacted → state.bit ≡ false
-    → reacted.cell_state.bit ≡ false
-gate-fits out state None reacted e clear = absurd cc
-gate-fits out state (Some line) reacted e clear =
-    let is : record { cell_state = record state { held = line.0 }; emitted = if line.1 then out ∷ [] else [] } ≡ reacted = cc in
-    subst (λ (r : Reaction). r.cell_state.bit ≡ false) is clear
-
-droc-fits : (state : CellState) (bit : Option Bool) (reacted : Reaction) → droc_step state bit ≡ Some reacted → state.held ≡ Rest → reacted.cell_state.held ≡ Rest
-droc-fits state None reacted e rests = absurd cc
-droc-fits state (Some bit) reacted e rests =
-    let is : record { cell_state = record state { bit = bit }; emitted = [] } ≡ reacted = cc in
-    subst (λ (r : Reaction). r.cell_state.held ≡ Rest) is rests
-
-split-fits : (state : CellState) (emitted : List ℕ) (reacted : Reaction) → Some (record { cell_state = state; emitted = emitted }) ≡ Some reacted
-    → (state.held ≡ Rest) × (state.bit ≡ false) → (reacted.cell_state.held ≡ Rest) × (reacted.cell_state.bit ≡ false)
-split-fits state emitted reacted e rests =
-    let is : record { cell_state = state; emitted = emitted } ≡ reacted = cc in
-    subst (λ (r : Reaction). (r.cell_state.held ≡ Rest) × (r.cell_state.bit ≡ false)) is rests
-
-pub reacted-fits : (cell : Cell) (state : CellState) (reader : Reader) (reacted : Reaction) → port_reaction cell state reader ≡ Some reacted → IsStateOf cell state
-    → IsStateOf cell reacted.cell_state
-reacted-fits (La a b out) state (A id) reacted e fits = gate-fits out.number state (arrival gates.La state.held ports.A) reacted e fits
-reacted-fits (La a b out) state (B id) reacted e fits = gate-fits out.number state (arrival gates.La state.held ports.B) reacted e fits
-reacted-fits (La a b out) state (From id) reacted e fits = absurd cc
-reacted-fits (La a b out) state (Feed id) reacted e fits = absurd cc
-reacted-fits (La a b out) state (Output id) reacted e fits = absurd cc
-reacted-fits (Fa a b out) state (A id) reacted e fits = gate-fits out.number state (arrival gates.Fa state.held ports.A) reacted e fits
-reacted-fits (Fa a b out) state (B id) reacted e fits = gate-fits out.number state (arrival gates.Fa state.held ports.B) reacted e fits
-reacted-fits (Fa a b out) state (From id) reacted e fits = absurd cc
-reacted-fits (Fa a b out) state (Feed id) reacted e fits = absurd cc
-reacted-fits (Fa a b out) state (Output id) reacted e fits = absurd cc
-reacted-fits (Split from left right) state (A id) reacted e fits = absurd cc
-reacted-fits (Split from left right) state (B id) reacted e fits = absurd cc
-reacted-fits (Split from left right) state (From id) reacted e fits = split-fits state (left.number ∷ right.number ∷ []) reacted e fits
-reacted-fits (Split from left right) state (Feed id) reacted e fits = absurd cc
-reacted-fits (Split from left right) state (Output id) reacted e fits = absurd cc
-reacted-fits (Droc role preload feed q n) state (A id) reacted e fits = absurd cc
-reacted-fits (Droc role preload feed q n) state (B id) reacted e fits = absurd cc
-reacted-fits (Droc role preload feed q n) state (From id) reacted e fits = absurd cc
-reacted-fits (Droc role preload feed q n) state (Feed id) reacted e fits = droc-fits state (fed state.bit) reacted e fits
-reacted-fits (Droc role preload feed q n) state (Output id) reacted e fits = absurd cc
-
--- the first so many cells keep what they do at the start, and the others nothing
-abbrev pub preloaded_to : ℕ → List Cell → List CellState
-preloaded_to n [] = []
-preloaded_to zero (cell ∷ cells) = nothing_kept cell ∷ preloaded_to zero cells
-preloaded_to (suc n) (cell ∷ cells) = preloaded cell ∷ preloaded_to n cells
-
-pub preloaded-none : (cells : List Cell) → preloaded_to 0 cells ≡ map nothing_kept cells
-preloaded-none [] = refl
-preloaded-none (cell ∷ cells) = ap (λ ss. nothing_kept cell ∷ ss) (preloaded-none cells)
-
-pub preloaded-set : (cells : List Cell) (i : ℕ) (cell : Cell) → slice_get cells i ≡ Some cell → slice_set (preloaded_to i cells) i (preloaded cell) ≡ preloaded_to (i + 1) cells
-preloaded-set [] zero cell e = absurd cc
-preloaded-set [] (suc i) cell e = absurd cc
-preloaded-set (x ∷ cells) zero cell e =
-    let same : x ≡ cell = cc in
-    let one : 0 + 1 ≡ suc 0 = omega arith in
-    subst (λ k. slice_set (preloaded_to 0 (x ∷ cells)) 0 (preloaded cell) ≡ preloaded_to k (x ∷ cells)) (sym one)
-    (ap (λ z. preloaded z ∷ preloaded_to 0 cells) (sym same))
-preloaded-set (x ∷ cells) (suc i) cell e =
-    let next : suc (i + 1) ≡ suc i + 1 = omega arith in
-    subst (λ k. preloaded x ∷ slice_set (preloaded_to i cells) i (preloaded cell) ≡ preloaded_to k (x ∷ cells)) next (ap (λ ss. preloaded x ∷ ss) (preloaded-set cells i cell e))
-
-pub preloaded-all : (cells : List Cell) (n : ℕ) → n ≡ length cells → preloaded_to n cells ≡ map preloaded cells
-preloaded-all [] n e = refl
-preloaded-all (cell ∷ cells) zero e = absurd (omega arith)
-preloaded-all (cell ∷ cells) (suc n) e = ap (λ ss. preloaded cell ∷ ss) (preloaded-all cells n (omega arith))
+pub packed-empty : (cells : List Cell) (n : ℕ) → n ≡ 2 * length cells → length cells < 2 ^ 31 → ArePacked cells (replicate n false)
+packed-empty cells n e few = record { two_each = zeros-long n ∙ e; few = few; apart = λ c cell at plain a b. zeros-get n (bit_place c A) a }
 
 -- a state whose bit is 0 stays as it is where it is cleared
-set-here : (xs : List CellState) (i : ℕ) (x : CellState) → slice_get xs i ≡ Some x → slice_set xs i x ≡ xs
-set-here [] zero x e = refl
-set-here [] (suc i) x e = refl
-set-here (y ∷ xs) zero x e = let same : x ≡ y = cc in ap (λ z. z ∷ xs) same
-set-here (y ∷ xs) (suc i) x e = ap (λ ys. y ∷ ys) (set-here xs i x e)
-
 pub clear-stays : (xs : List CellState) (i : ℕ) (x : CellState) → slice_get xs i ≡ Some x → x.bit ≡ false → slice_set xs i (cleared x) ≡ xs
 clear-stays xs i x e clear =
     let same : cleared x ≡ x = ap (λ bit. record x { bit = bit }) (sym clear) in ap (slice_set xs i) same ∙ set-here xs i x e

@@ -4,6 +4,7 @@
 //! what bit each wire has in each cycle.
 #![tactic(auto)]
 
+mod drocs;
 mod examples;
 mod moments;
 mod opening;

@@ -6,6 +6,7 @@ ghost use Rattle.cell_netlist.specs.declared.kinds.CellState.{CellState};
 ghost use Rattle.cell_netlist.specs.declared.lines.Cell.{Cell};
 ghost use Rattle.cell_netlist.specs.Netlists.{used, wire_of};
 ghost use Rattle.cell_netlist.specs.World.{has_sign, pulses_in, rail_pulses, clocked, clock_pulses, cleared};
+ghost use Rattle.pulse_world.specs.PackedStates.{IsDrocAt};
 ghost use Rattle.pulse_world.specs.PendingQueues.{HasRoomFor};
 ghost use Rattle.pulse_world.specs.Reacting.{wires_of};
 
@@ -13,7 +14,7 @@ use crate::pending::PendingQueue;
 use crate::rails::RailCounts;
 use crate::reacting::Emitted;
 use crate::states::CellStates;
-use cell_netlist::{Cell, CellState, Netlist, Phase, Rail};
+use cell_netlist::{Cell, Netlist, Phase, Rail};
 use pulse_ids::{CellId, Ident, RailId, Row, Sign, WireId};
 
 /// Opens a phase: puts the pulses of the vector on the input rails, reads all DROCs by the phase clock and sets all
@@ -95,41 +96,30 @@ fn pulses(phase: Phase, vector: &[bool], rail: Rail) -> bool
     value == (phase == Phase::Excite)
 }
 
-// Reads all DROCs by the phase clock, in the order of the cells: each emits by its bit, which becomes 0.
+// Reads all DROCs by the phase clock, in the order of the cells: each emits by its bit, which becomes 0. No other cell
+// is visited.
 fn clock_cells(cell_states: &mut CellStates<'_>, pending: &mut PendingQueue)
     requires { HasRoomFor pending.old (clock_pulses cell_states.old.cells cell_states.old.states) }
     ensures emitted { pending.new ≡ record pending.old { wires = pending.old.wires ++ clock_pulses cell_states.old.cells cell_states.old.states } }
     ensures cleared { cell_states.new ≡ record cell_states.old { states = map cleared cell_states.old.states } }
 {
-    for number in 0..cell_states.len() {
-        let output = clock_at(cell_states, CellId::new(number));
+    for place in 0..cell_states.drocs() {
+        let id = cell_states.droc(place);
+        let output = clock_at(cell_states, id);
         append_if_used(output, pending);
     }
 }
 
-// Reads a cell by the phase clock, and answers the wire on which it emits. Its bit becomes 0; most cells have none.
+// Reads a DROC by the phase clock, and answers the wire on which it emits. Its bit becomes 0.
 fn clock_at(cell_states: &mut CellStates<'_>, id: CellId) -> Option<WireId>
-    requires { id.number < length cell_states.old.states }
+    requires { IsDrocAt cell_states.old id.number }
     ensures { (cell : Cell) × (before : CellState) × (slice_get cell_states.old.cells id.number ≡ Some cell)
         × (slice_get cell_states.old.states id.number ≡ Some before) × (used result ≡ clocked cell before.bit)
         × (cell_states.new ≡ record cell_states.old { states = slice_set cell_states.old.states id.number (cleared before) }) }
 {
-    let (cell, before) = cell_states.at(id);
-    let output = clock_cell(cell, before.bit);
-    if before.bit {
-        cell_states.set(id, after_clock(before));
-    }
-    output
-}
-
-// What a cell keeps after the phase clock.
-fn after_clock(before: CellState) -> CellState
-    ensures { result ≡ cleared before }
-{
-    CellState {
-        held: before.held,
-        bit: false,
-    }
+    let bit = cell_states.bit(id);
+    cell_states.set_bit(id, false);
+    clock_cell(cell_states.cell(id), bit)
 }
 
 // The wire on which the phase clock makes a cell emit.

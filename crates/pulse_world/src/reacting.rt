@@ -1,13 +1,15 @@
 //! What a cell does at a pulse on one of its ports.
 
-ghost use Rattle.std.specs.Prelude.{◌≡◌, Some, option_map, slice_set};
-ghost use Rattle.cell_netlist.specs.OneReader.{port_reaction, reaction_at};
-ghost use Rattle.cell_netlist.specs.Tables.{arrival, fed};
-ghost use Rattle.cell_netlist.specs.World.{Reaction, gate_step, droc_step};
-ghost use Rattle.pulse_world.specs.Reacting.{wires_of, reaction_of, target_at};
+ghost use Rattle.std.specs.Prelude.{◌≡◌, Some, if◌then◌else◌};
+ghost use Rattle.cell_netlist.specs.declared.kinds.Held.TheVariants.{Rest};
+ghost use Rattle.cell_netlist.specs.declared.kinds.Port.{Port};
+ghost use Rattle.cell_netlist.specs.declared.lines.Reader.TheVariants.{From};
+ghost use Rattle.cell_netlist.specs.Tables.{arrival};
+ghost use Rattle.pulse_world.specs.PackedStates.{held_of, other_port};
+ghost use Rattle.pulse_world.specs.Reacting.{gate_in, port_of, target_at, Reacts, HasReacted};
 
 use crate::states::CellStates;
-use cell_netlist::{Cell, CellState, Gate, Port, Reader, arrive, feed_bit};
+use cell_netlist::{Cell, Gate, Port, Reader};
 use pulse_ids::{CellId, RailId, WireId};
 
 /// The wires on which a cell emits, in order.
@@ -35,71 +37,65 @@ pub(crate) fn target_of(reader: Reader) -> Target
     }
 }
 
-/// Lets a cell react to a pulse on its port, for which the cell's table has an entry, and answers what it emits.
+/// Lets a cell react to a pulse on its port, for which the cell's table has an entry, and answers what it emits. A
+/// splitter keeps nothing, and the feed of a DROC sets its bit: neither asks for what the cell kept.
 pub(crate) fn react_at(cell_states: &mut CellStates<'_>, id: CellId, reader: Reader) -> Emitted
-    requires { (reacted : Reaction) × (reaction_at cell_states.old.cells cell_states.old.states id.number reader ≡ Some reacted) }
-    ensures { (reacted : Reaction) × (reaction_at cell_states.old.cells cell_states.old.states id.number reader ≡ Some reacted)
-        × (cell_states.new ≡ record cell_states.old { states = slice_set cell_states.old.states id.number reacted.cell_state })
-        × (wires_of result ≡ reacted.emitted) }
+    requires { Reacts cell_states.old id.number reader }
+    ensures { HasReacted cell_states.old cell_states.new id.number reader result }
 {
-    let (cell, before) = cell_states.at(id);
-    let Some((next, emitted)) = react(cell, before, reader) else {
-        unreachable!()
-    };
-    cell_states.set(id, next);
-    emitted
-}
-
-// What a cell keeps and emits after a pulse on a port. None exactly where its table has no entry.
-fn react(cell: Cell, before: CellState, reader: Reader) -> Option<(CellState, Emitted)>
-    ensures { option_map reaction_of result ≡ port_reaction cell before reader }
-{
-    match (cell, reader) {
-        (Cell::La { out, .. }, Reader::A(_)) => react_gate(Gate::La, before, Port::A, out),
-        (Cell::La { out, .. }, Reader::B(_)) => react_gate(Gate::La, before, Port::B, out),
-        (Cell::Fa { out, .. }, Reader::A(_)) => react_gate(Gate::Fa, before, Port::A, out),
-        (Cell::Fa { out, .. }, Reader::B(_)) => react_gate(Gate::Fa, before, Port::B, out),
-        (Cell::Split { left, right, .. }, Reader::From(_)) => Some((
-            before,
-            Emitted::Two(left, right),
-        )),
-        (Cell::Droc { .. }, Reader::Feed(_)) => react_droc(before),
-        _ => None,
+    match reader {
+        Reader::A(_) => react_gate_at(cell_states, id, Port::A),
+        Reader::B(_) => react_gate_at(cell_states, id, Port::B),
+        Reader::From(_) => split_at(cell_states, id),
+        Reader::Feed(_) => {
+            cell_states.set_bit(id, true);
+            Emitted::Nothing
+        }
+        Reader::Output(_) => unreachable!(),
     }
 }
 
-fn react_gate(
-    gate: Gate,
-    before: CellState,
-    port: Port,
-    out: WireId,
-) -> Option<(CellState, Emitted)>
-    ensures { option_map reaction_of result ≡ gate_step out.number before (arrival gate before.held port) }
+// Emits on both outputs of a splitter.
+fn split_at(cell_states: &CellStates<'_>, id: CellId) -> Emitted
+    requires { Reacts cell_states.now id.number (From id) }
+    ensures { HasReacted cell_states.now cell_states.now id.number (From id) result }
 {
-    let (held, emits) = arrive(gate, before.held, port)?;
-    let emitted = if emits {
+    let Cell::Split { left, right, .. } = cell_states.cell(id) else {
+        unreachable!()
+    };
+    Emitted::Two(left, right)
+}
+
+// Lets an LA or FA react to a pulse on a port.
+fn react_gate_at(cell_states: &mut CellStates<'_>, id: CellId, port: Port) -> Emitted
+    requires { Reacts cell_states.old id.number (port_of port id) }
+    ensures { HasReacted cell_states.old cell_states.new id.number (port_of port id) result }
+{
+    let Some((gate, out)) = gate_of(cell_states.cell(id)) else {
+        unreachable!()
+    };
+    let met = cell_states.pulse(id, port);
+    if emits(gate, met) {
         Emitted::One(out)
     } else {
         Emitted::Nothing
-    };
-    Some((
-        CellState {
-            held,
-            bit: before.bit,
-        },
-        emitted,
-    ))
+    }
 }
 
-fn react_droc(before: CellState) -> Option<(CellState, Emitted)>
-    ensures { option_map reaction_of result ≡ droc_step before (fed before.bit) }
+// The gate that a cell is, and its output. None for a splitter or a DROC.
+fn gate_of(cell: Cell) -> Option<(Gate, WireId)>
+    ensures { result ≡ gate_in cell }
 {
-    let bit = feed_bit(before.bit)?;
-    Some((
-        CellState {
-            held: before.held,
-            bit,
-        },
-        Emitted::Nothing,
-    ))
+    match cell {
+        Cell::La { out, .. } => Some((Gate::La, out)),
+        Cell::Fa { out, .. } => Some((Gate::Fa, out)),
+        Cell::Split { .. } | Cell::Droc { .. } => None,
+    }
+}
+
+// Whether a gate emits at a pulse on a port, by whether it held one of the other port.
+fn emits(gate: Gate, met: bool) -> bool
+    ensures { (port : Port) → arrival gate (if met then held_of (other_port port) else Rest) port ≡ Some (if met then Rest else held_of port, result) }
+{
+    met == (gate == Gate::La)
 }

@@ -1,113 +1,199 @@
 //! What the cells keep between pulses, in two bits a cell.
 
-ghost use Rattle.std.specs.Prelude.{◌≡◌, ◌<◌, Some, map, length, IfOk, slice_get, slice_set};
+ghost use Rattle.std.specs.Prelude.{◌≡◌, ◌<◌, ◌^◌, Some, map, length, IfOk, slice_get, slice_set, if◌then◌else◌};
+ghost use Rattle.cell_netlist.specs.declared.kinds.CellState.{CellState};
 ghost use Rattle.cell_netlist.specs.declared.lines.Cell.{Cell};
 ghost use Rattle.cell_netlist.specs.World.{preloaded};
-ghost use Rattle.pulse_world.specs.PackedStates.{IsStateOf, held_by, state_by, first_in, second_in, nothing_kept};
+ghost use Rattle.pulse_world.specs.PackedStates.{held_by, state_by, bit_place, other_port, nothing_kept, AreStatesOf, IsDrocAt, IsFreeAt, HasPulsed, drocs_from};
 
-use cell_netlist::{Cell, CellState, Held};
-use pulse_ids::{Bits, CellId, Ident, NoMemory, Row};
+use crate::drocs::drocs_of;
+use cell_netlist::{Cell, CellState, Held, Port};
+use pulse_ids::{Bits, CellId, Id, Ident, NoMemory, Row};
 use std::alloc::Global;
 use std::marker::Model;
 
-/// The state of each cell of a row, in two bits. An LA or FA at rest has 00, one that holds a pulse of port a has 10,
-/// one that holds a pulse of port b has 01, and 11 never stands. A DROC's bit is the first one. After `new` no call
-/// takes memory.
+/// The kind of the bits in which the states stand.
+#[derive(Clone, Copy, Debug, PartialEq, Eq)]
+struct StateBit;
+
+/// The state of each cell of a row, in two bits that stand side by side. An LA or FA at rest has 00, one that holds a
+/// pulse of port a has 10, one that holds a pulse of port b has 01, and 11 never stands. A DROC's bit is the first
+/// one. After `new` no call takes memory.
 #[derive(Debug, Drop)]
 pub(crate) struct CellStates<'a> {
     cells: &'a Row<CellId, Cell>,
-    firsts: Bits<CellId>,
-    seconds: Bits<CellId>,
+    // The DROCs, by rising numbers.
+    drocs: Vec<CellId>,
+    bits: Bits<Id<StateBit>>,
 }
 
 impl<'a> Model for CellStates<'a> {
-    ghost use Rattle.pulse_world.specs.PackedStates.{PlainStates, packed_states, ArePacked};
+    ghost use Rattle.std.specs.Prelude.{◌≡◌};
+    ghost use Rattle.pulse_world.specs.PackedStates.{PlainStates, packed_states, ArePacked, drocs_from, numbers_in};
 
     ghost Value = { PlainStates };
 
-    ghost view = { λ kept. packed_states kept.cells.now kept.firsts kept.seconds };
+    ghost view = { λ kept. packed_states kept.cells.now kept.bits };
 
-    ghost invariant = { λ kept. ArePacked kept.cells.now kept.firsts kept.seconds };
+    ghost invariant = { λ kept. ArePacked kept.cells.now kept.bits × (numbers_in kept.drocs.items ≡ drocs_from 0 kept.cells.now) };
 }
 
 impl<'a> CellStates<'a> {
-    /// What each cell keeps at the start: an LA or FA rests, and a DROC holds its preload.
+    /// What each cell of fewer than 2^31 keeps at the start: an LA or FA rests, and a DROC holds its preload.
     pub(crate) fn new(
         alloc: Global,
         cells: &'a Row<CellId, Cell>,
     ) -> Result<CellStates<'a>, NoMemory>
+        requires { length cells.now < 2 ^ 31 }
         ensures { IfOk result (λ kept. kept ≡ record { cells = cells.now; states = map preloaded cells.now }) }
     {
         let mut kept = CellStates::empty(alloc, cells)?;
-        preload_all(cells, &mut kept);
+        preload_all(&mut kept);
         Ok(kept)
     }
 
     // Cells that keep nothing.
     fn empty(alloc: Global, cells: &'a Row<CellId, Cell>) -> Result<CellStates<'a>, NoMemory>
+        requires { length cells.now < 2 ^ 31 }
         ensures { IfOk result (λ kept. kept ≡ record { cells = cells.now; states = map nothing_kept cells.now }) }
     {
-        let firsts = Bits::filled(alloc, cells.len())?;
-        let seconds = Bits::filled(alloc, cells.len())?;
-        Ok(CellStates {
-            cells,
-            firsts,
-            seconds,
-        })
+        let drocs = drocs_of(alloc, cells)?;
+        let bits = Bits::filled(alloc, 2 * cells.len())?;
+        Ok(CellStates { cells, drocs, bits })
     }
 
     /// How many cells there are.
     pub(crate) fn len(&self) -> u32
-        ensures { result ≡ length self.now.states }
+        ensures cells { result ≡ length self.now.cells }
+        ensures states { result ≡ length self.now.states }
     {
         self.cells.len()
     }
 
-    /// The cell with this number, which is below the length, and what it keeps.
-    pub(crate) fn at(&self, id: CellId) -> (Cell, CellState)
-        requires { id.number < length self.now.states }
-        ensures cell { slice_get self.now.cells id.number ≡ Some result.0 }
-        ensures state { slice_get self.now.states id.number ≡ Some result.1 }
-        ensures fits { IsStateOf result.0 result.1 }
+    /// How many cells are DROCs.
+    pub(crate) fn drocs(&self) -> usize
+        ensures count { result ≡ length (drocs_from 0 self.now.cells) }
+        ensures fit { AreStatesOf self.now }
     {
-        let cell = *self.cells.get(id);
-        (
-            cell,
-            unpacked(cell, self.firsts.get(id), self.seconds.get(id)),
-        )
+        self.drocs.len()
     }
 
-    /// Lets the cell with this number keep a state, which is one of those that it can keep. All other cells keep theirs.
-    pub(crate) fn set(&mut self, id: CellId, state: CellState)
-        requires { (cell : Cell) × (slice_get self.old.cells id.number ≡ Some cell) × IsStateOf cell state }
-        ensures { self.new ≡ record self.old { states = slice_set self.old.states id.number state } }
+    /// The number of a DROC, by its place among the DROCs.
+    pub(crate) fn droc(&self, place: usize) -> CellId
+        requires { place < length (drocs_from 0 self.now.cells) }
+        ensures { slice_get (drocs_from 0 self.now.cells) place ≡ Some result.number }
     {
-        self.firsts.set(id, first_bit(state));
-        self.seconds.set(id, second_bit(state));
+        self.drocs[place]
     }
+
+    /// The cell with this number, which is below the length, and what it keeps.
+    pub(crate) fn at(&self, id: CellId) -> (Cell, CellState)
+        requires { id.number < length self.now.cells }
+        ensures cell { slice_get self.now.cells id.number ≡ Some result.0 }
+        ensures state { slice_get self.now.states id.number ≡ Some result.1 }
+    {
+        let cell = *self.cells.get(id);
+        let first = self.bits.get(bit_of(id, Port::A));
+        let second = self.bits.get(bit_of(id, Port::B));
+        (cell, unpacked(cell, first, second))
+    }
+
+    /// The cell with this number, which is below the length.
+    pub(crate) fn cell(&self, id: CellId) -> Cell
+        requires { id.number < length self.now.cells }
+        ensures { slice_get self.now.cells id.number ≡ Some result }
+    {
+        *self.cells.get(id)
+    }
+}
+
+impl<'a> CellStates<'a> {
+    /// The bit of the cell with this number, which is a DROC.
+    pub(crate) fn bit(&self, id: CellId) -> bool
+        requires { IsDrocAt self.now id.number }
+        ensures { (state : CellState) × (slice_get self.now.states id.number ≡ Some state) × (result ≡ state.bit) }
+    {
+        self.bits.get(bit_of(id, Port::A))
+    }
+
+    /// Sets the bit of the cell with this number, which is a DROC. All other cells keep theirs.
+    pub(crate) fn set_bit(&mut self, id: CellId, bit: bool)
+        requires { IsDrocAt self.old id.number }
+        ensures { (before : CellState) × (slice_get self.old.states id.number ≡ Some before)
+            × (self.new ≡ record self.old { states = slice_set self.old.states id.number (record before { bit = bit }) }) }
+    {
+        self.bits.set(bit_of(id, Port::A), bit);
+    }
+
+    /// Takes in a pulse on a port of the cell with this number, which is an LA or FA that holds none of this port. It
+    /// answers whether the cell held one of the other port: it rests then, and else it holds this one.
+    pub(crate) fn pulse(&mut self, id: CellId, port: Port) -> bool
+        requires { IsFreeAt self.old id.number port }
+        ensures { HasPulsed self.old self.new id.number port result }
+    {
+        let met = self.bits.get(bit_of(id, other(port)));
+        self.bits.set(bit_of(id, changed(port, met)), !met);
+        met
+    }
+}
+
+// The bit of a cell for a port, or a DROC's for port a.
+fn bit_of(id: CellId, port: Port) -> Id<StateBit>
+    requires { id.number < 2 ^ 31 }
+    ensures { result.number ≡ bit_place id.number port }
+{
+    let first = 2 * id.number();
+    match port {
+        Port::A => Id::new(first),
+        Port::B => Id::new(first + 1),
+    }
+}
+
+// The other port of a gate.
+fn other(port: Port) -> Port
+    ensures { result ≡ other_port port }
+{
+    match port {
+        Port::A => Port::B,
+        Port::B => Port::A,
+    }
+}
+
+// The port whose bit changes at a pulse on a port, by whether a pulse of the other port is held.
+fn changed(port: Port, met: bool) -> Port
+    ensures { result ≡ (if met then other_port port else port) }
+{
+    if met { other(port) } else { port }
 }
 
 // Lets each cell, of which none keeps anything yet, keep what it does at the start.
-fn preload_all(cells: &Row<CellId, Cell>, kept: &mut CellStates<'_>)
-    requires { kept.old ≡ record { cells = cells.now; states = map nothing_kept cells.now } }
-    ensures { kept.new ≡ record { cells = cells.now; states = map preloaded cells.now } }
+fn preload_all(kept: &mut CellStates<'_>)
+    requires { kept.old.states ≡ map nothing_kept kept.old.cells }
+    ensures { kept.new ≡ record kept.old { states = map preloaded kept.old.cells } }
 {
-    for number in 0..cells.len() {
-        let id = CellId::new(number);
-        kept.set(id, preload(*cells.get(id)));
+    for number in 0..kept.len() {
+        preload_at(kept, CellId::new(number));
     }
 }
 
-fn preload(cell: Cell) -> CellState
-    ensures { result ≡ preloaded cell }
+// Lets a cell that keeps nothing keep what it does at the start.
+fn preload_at(kept: &mut CellStates<'_>, id: CellId)
+    requires { (cell : Cell) × (slice_get kept.old.cells id.number ≡ Some cell) × (slice_get kept.old.states id.number ≡ Some (nothing_kept cell)) }
+    ensures { (cell : Cell) × (slice_get kept.old.cells id.number ≡ Some cell)
+        × (kept.new ≡ record kept.old { states = slice_set kept.old.states id.number (preloaded cell) }) }
 {
-    let bit = match cell {
+    if preload(kept.cell(id)) {
+        kept.set_bit(id, true);
+    }
+}
+
+// The bit of a cell at the start.
+fn preload(cell: Cell) -> bool
+    ensures { result ≡ (preloaded cell).bit }
+{
+    match cell {
         Cell::Droc { preload, .. } => preload,
         _ => false,
-    };
-    CellState {
-        held: Held::Rest,
-        bit,
     }
 }
 
@@ -139,25 +225,5 @@ fn gate_holds(first: bool, second: bool) -> Held
         (false, false) => Held::Rest,
         (true, _) => Held::HasA,
         (false, true) => Held::HasB,
-    }
-}
-
-// The first bit of what a cell keeps.
-fn first_bit(state: CellState) -> bool
-    ensures { result ≡ first_in state }
-{
-    match state.held {
-        Held::HasA => true,
-        Held::Rest | Held::HasB => state.bit,
-    }
-}
-
-// The second one.
-fn second_bit(state: CellState) -> bool
-    ensures { result ≡ second_in state }
-{
-    match state.held {
-        Held::HasB => true,
-        Held::Rest | Held::HasA => false,
     }
 }

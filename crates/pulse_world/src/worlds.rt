@@ -56,9 +56,10 @@ impl<'a> World<'a> {
         ensures opened { IfOk result (λ world. world.opened ≡ None) }
     {
         let lines = net.net();
+        let wires = lines.wires();
         let vector = Vec::from_elem(alloc, false, lines.inputs() as usize)?;
         let cell_states = CellStates::new(alloc, lines.cells())?;
-        let pending = PendingQueue::new(alloc, lines.wires())?;
+        let pending = PendingQueue::new(alloc, wires)?;
         let counted = RailCounts::new(alloc, lines.output_rails().len())?;
         Ok(World {
             net,
@@ -198,7 +199,6 @@ impl<'a> World<'a> {
         requires { cell.number < length self.now.net.cells }
         ensures { (cell_state : CellState) × (slice_get self.now.cell_states cell.number ≡ Some cell_state) × (result ≡ cell_state.bit) }
     {
-        readers_of_wires();
         let (_, cell_state) = self.cell_states.at(cell);
         bit_of(cell_state)
     }

@@ -1,11 +1,13 @@
 use Rattle.std.proofs.Common.{◌≡◌, ◌∙◌, Some, slice_get, ap, sym, subst}
 use Rattle.pulse_world.specs.PackedStates.{PlainStates}
-use Rattle.pulse_world.proofs.StateBits.{states-at}
+use Rattle.pulse_world.proofs.StateBits.{state-read}
 use Rattle.pulse_world.proofs.states.CellStates.at.Goals as goal
 
 pub returns-clause-state : goal.returns-clause-state
 returns-clause-state c =
     let inside = c.self.inside in
+    let first = rw c.bit_of.ensures at c.get-first.ensures in
+    let second = rw c.bit_of-2.ensures at c.get-second.ensures in
     subst (λ (kept : PlainStates). slice_get kept.states c.args.id.number ≡ Some c.unpacked.result) c.self.view_is
-    (states-at inside.cells.now inside.firsts inside.seconds c.args.id.number c.get-cell.result.now c.get.result c.get-2.result c.get-cell.ensures c.get.ensures c.get-2.ensures
+    (state-read inside.cells.now inside.bits c.args.id.number c.get-cell.result.now c.get-first.result c.get-second.result c.get-cell.ensures first second
     ∙ ap (λ s. Some s) (sym c.unpacked.ensures))

@@ -1,9 +1,7 @@
-use Rattle.std.proofs.Common.{refl}
-use Rattle.pulse_world.proofs.StateBits.{states-empty, packed-empty}
+use Rattle.std.proofs.Common.{◌*◌, ap}
+use Rattle.pulse_world.proofs.StateBits.{states-empty}
 use Rattle.pulse_world.proofs.states.CellStates.empty.Goals as goal
 
-pub invariant_of-result : goal.invariant_of-result
-invariant_of-result c = rw (c.in_ok-firsts.ensures, c.in_ok-seconds.ensures) (packed-empty c.args.cells.now c.len.result c.len-2.result c.len.ensures c.len-2.ensures)
-
 pub returns : goal.returns
-returns c = rw (c.in_ok-firsts.ensures, c.in_ok-seconds.ensures, states-empty c.args.cells.now c.len.result c.len-2.result c.len.ensures c.len-2.ensures) refl
+returns c = rw c.in_ok-bits.ensures (ap (λ states. record { cells = c.args.cells.now; states = states })
+    (states-empty c.args.cells.now (2 * c.len.result) (ap (λ n. 2 * n) c.len.ensures)))

@@ -34,11 +34,11 @@ append_emitted-requires c =
     let wire = c.take_at-wire.result.number in
     let target = sym c.target_of.ensures ∙ c.in-Cell.is in
     let cells_are = c.self.invariant.2 in
-    let reacted = c.react_at-emitted.ensures.0 in
-    let is = subst (λ cells. reaction_at cells c.self.inside.cell_states.states c.in-Cell.id.number c.reader-reader.result ≡ Some reacted) cells_are c.react_at-emitted.ensures.1 in
+    let reacted = c.react_at-emitted.ensures.reacted in
+    let is = subst (λ cells. reaction_at cells c.self.inside.cell_states.states c.in-Cell.id.number c.reader-reader.result ≡ Some reacted) cells_are c.react_at-emitted.ensures.by_table in
     let step = cell-step world c.self.invariant.0 c.args.place wire at c.readers_of_wires.ensures.delivery c.readers_of_wires.ensures.shape
     c.reader-reader.result c.reader-reader.ensures c.in-Cell.id target reacted is in
-    rw (c.take_at-wire.ensures.rest, c.react_at-emitted.ensures.3)
+    rw (c.take_at-wire.ensures.rest, c.react_at-emitted.ensures.emits)
     (room-in _ step.1 (swap_remove c.self.inside.pending.wires c.args.place 0) reacted.emitted c.self.inside.pending.bound c.self.invariant.1 refl)
 
 pub invariant_of-self : goal.invariant_of-self
@@ -48,19 +48,19 @@ invariant_of-self c =
     let wire = c.take_at-wire.result.number in
     let target = sym c.target_of.ensures ∙ c.in-Cell.is in
     let cells_are = c.self.invariant.2 in
-    let reacted = c.react_at-emitted.ensures.0 in
-    let is = subst (λ cells. reaction_at cells c.self.inside.cell_states.states c.in-Cell.id.number c.reader-reader.result ≡ Some reacted) cells_are c.react_at-emitted.ensures.1 in
+    let reacted = c.react_at-emitted.ensures.reacted in
+    let is = subst (λ cells. reaction_at cells c.self.inside.cell_states.states c.in-Cell.id.number c.reader-reader.result ≡ Some reacted) cells_are c.react_at-emitted.ensures.by_table in
     let step = cell-step world c.self.invariant.0 c.args.place wire at c.readers_of_wires.ensures.delivery c.readers_of_wires.ensures.shape
     c.reader-reader.result c.reader-reader.ensures c.in-Cell.id target reacted is in
     let wires_are : c.append_emitted.new.pending.wires ≡ swap_remove c.self.inside.pending.wires c.args.place 0 ++ reacted.emitted =
     ap (λ (r : PlainQueue). r.wires) c.append_emitted.ensures
     ∙ (ap (λ (r : PlainQueue). r.wires ++ wires_of c.react_at-emitted.result) c.take_at-wire.ensures.rest
-    ∙ ap (λ ws. swap_remove c.self.inside.pending.wires c.args.place 0 ++ ws) c.react_at-emitted.ensures.3) in
+    ∙ ap (λ ws. swap_remove c.self.inside.pending.wires c.args.place 0 ++ ws) c.react_at-emitted.ensures.emits) in
     let after_is = world-is world c.react_at-emitted.new.cell_states.states c.append_emitted.new.pending.wires c.self.inside.counted _ _ c.self.inside.counted
-    (ap (λ (kept : PlainStates). kept.states) c.react_at-emitted.ensures.2) wires_are refl in (
+    (ap (λ (kept : PlainStates). kept.states) c.react_at-emitted.ensures.keeps) wires_are refl in (
       subst IsWorld (sym after_is) step.1,
       ap (λ (r : PlainQueue). r.bound) c.append_emitted.ensures ∙ (ap (λ (r : PlainQueue). r.bound) c.take_at-wire.ensures.rest ∙ c.self.invariant.1),
-      ap (λ (kept : PlainStates). kept.cells) c.react_at-emitted.ensures.2 ∙ c.self.invariant.2,
+      ap (λ (kept : PlainStates). kept.cells) c.react_at-emitted.ensures.keeps ∙ c.self.invariant.2,
     )
 
 pub count-requires : goal.count-requires
@@ -92,16 +92,16 @@ returns-in-Cell c =
     let wire = c.take_at-wire.result.number in
     let target = sym c.target_of.ensures ∙ c.in-Cell.is in
     let cells_are = c.self.invariant.2 in
-    let reacted = c.react_at-emitted.ensures.0 in
-    let is = subst (λ cells. reaction_at cells c.self.inside.cell_states.states c.in-Cell.id.number c.reader-reader.result ≡ Some reacted) cells_are c.react_at-emitted.ensures.1 in
+    let reacted = c.react_at-emitted.ensures.reacted in
+    let is = subst (λ cells. reaction_at cells c.self.inside.cell_states.states c.in-Cell.id.number c.reader-reader.result ≡ Some reacted) cells_are c.react_at-emitted.ensures.by_table in
     let step = cell-step world c.self.invariant.0 c.args.place wire at c.readers_of_wires.ensures.delivery c.readers_of_wires.ensures.shape
     c.reader-reader.result c.reader-reader.ensures c.in-Cell.id target reacted is in
     let wires_are : c.append_emitted.new.pending.wires ≡ swap_remove c.self.inside.pending.wires c.args.place 0 ++ reacted.emitted =
     ap (λ (r : PlainQueue). r.wires) c.append_emitted.ensures
     ∙ (ap (λ (r : PlainQueue). r.wires ++ wires_of c.react_at-emitted.result) c.take_at-wire.ensures.rest
-    ∙ ap (λ ws. swap_remove c.self.inside.pending.wires c.args.place 0 ++ ws) c.react_at-emitted.ensures.3) in
+    ∙ ap (λ ws. swap_remove c.self.inside.pending.wires c.args.place 0 ++ ws) c.react_at-emitted.ensures.emits) in
     let after_is = world-is world c.react_at-emitted.new.cell_states.states c.append_emitted.new.pending.wires c.self.inside.counted _ _ c.self.inside.counted
-    (ap (λ (kept : PlainStates). kept.states) c.react_at-emitted.ensures.2) wires_are refl in
+    (ap (λ (kept : PlainStates). kept.states) c.react_at-emitted.ensures.keeps) wires_are refl in
     let after = world_of c.self.inside.net.now c.self.inside.opened c.self.inside.vector.items c.react_at-emitted.new.cell_states.states c.append_emitted.new.pending.wires c.self.inside.counted in
     subst (λ (before : PlainWorld). DeliversAt before after c.args.place wire) c.self.view_is (record {
       at = at;

@@ -18,14 +18,14 @@ invariant_of-result c =
     c.len.result states (ap (λ (queue : PlainQueue). queue.wires) c.in_ok-pending.ensures) c.in_ok-counted.ensures rails in (
       record {
         sound = c.net-lines.ensures.sound;
-        few = subst (λ net. number_of_wires net ≤ greatest_of Wires) lines c.wires.ensures.netlist.wires;
+        few = subst (λ net. number_of_wires net ≤ greatest_of Wires) lines c.wires-wires.ensures.netlist.wires;
         reached = subst (IsReached _ _ _) (sym is) (reached-start c.args.net.now c.in_ok-vector.vector.items);
         width =
             let wide = c.in_ok-vector.ensures.len in
             let ok = c.in_ok-vector.vector.ok in
             let inputs = c.inputs.ensures ∙ ap (λ (net : PlainNetlist). net.inputs) lines in omega arith;
       },
-      ap (λ (queue : PlainQueue). queue.bound) c.in_ok-pending.ensures ∙ (c.wires.ensures.value ∙ rw lines refl),
+      ap (λ (queue : PlainQueue). queue.bound) c.in_ok-pending.ensures ∙ (c.wires-wires.ensures.value ∙ rw lines refl),
       ap (λ (kept : PlainStates). kept.cells) c.in_ok-cell_states.ensures ∙ rw (c.cells.ensures, lines) refl,
     )
 

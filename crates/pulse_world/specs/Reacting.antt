@@ -39,7 +39,7 @@ IsGate (cells_of.Fa a b its_out) gate out = (gate ≡ gates.Fa) × (its_out ≡ 
 IsGate (cells_of.Split from left right) gate out = ⊥
 IsGate (cells_of.Droc role preload feed q n) gate out = ⊥
 
--- the cell of a number is
+-- the cell of a number is this gate, with this output
 abbrev pub IsGateAt : PlainStates → ℕ → Gate → WireId → Type 0
 IsGateAt kept c gate out = (cell : Cell) × (slice_get kept.cells c ≡ Some cell) × IsGate cell gate out
 

@@ -86,7 +86,7 @@ states_by (cell ∷ cells) (first ∷ second ∷ bits) = state_by cell first sec
 abbrev pub packed_states : List Cell → List Bool → PlainStates
 packed_states cells bits = record { cells = cells; states = states_by cells bits }
 
--- Each cell has two bits, and both are 1 in none that is no DROC.
+-- Each cell has two bits. In an LA, an FA and a splitter they are not both 1.
 pub record ArePacked (cells : List Cell) (bits : List Bool) : Type 0 where
   pub two_each : length bits ≡ 2 * length cells
   pub few : length cells < 2 ^ 31

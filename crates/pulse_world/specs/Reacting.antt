@@ -1,5 +1,5 @@
 -- What the engine keeps and emits, in the words of the world of pulses.
-use Rattle.std.specs.Prelude.{◌≡◌, ℕ, Option, Some, None, List, [], ◌∷◌, slice_set}
+use Rattle.std.specs.Prelude.{◌≡◌, ℕ, Option, Some, None, List, [], ◌∷◌, slice_get, slice_set}
 use Rattle.pulse_ids.specs.Ids.{CellId, WireId}
 use Rattle.cell_netlist.specs.declared.kinds.Gate.{Gate}
 use Rattle.cell_netlist.specs.declared.kinds.Gate.TheVariants as gates
@@ -32,12 +32,16 @@ target_at (readers.From id) = targets.Cell id
 target_at (readers.Feed id) = targets.Cell id
 target_at (readers.Output id) = targets.Rail id
 
--- the gate that a cell is, and its output
-abbrev pub gate_in : Cell → Option (Gate × WireId)
-gate_in (cells_of.La a b out) = Some (gates.La, out)
-gate_in (cells_of.Fa a b out) = Some (gates.Fa, out)
-gate_in (cells_of.Split from left right) = None
-gate_in (cells_of.Droc role preload feed q n) = None
+-- a cell is this gate, with this output
+abbrev pub IsGate : Cell → Gate → WireId → Type 0
+IsGate (cells_of.La a b its_out) gate out = (gate ≡ gates.La) × (its_out ≡ out)
+IsGate (cells_of.Fa a b its_out) gate out = (gate ≡ gates.Fa) × (its_out ≡ out)
+IsGate (cells_of.Split from left right) gate out = ⊥
+IsGate (cells_of.Droc role preload feed q n) gate out = ⊥
+
+-- the cell of a number is this gate, with this output
+abbrev pub IsGateAt : PlainStates → ℕ → Gate → WireId → Type 0
+IsGateAt kept c gate out = (cell : Cell) × (slice_get kept.cells c ≡ Some cell) × IsGate cell gate out
 
 -- the port of a gate as a reader
 abbrev pub port_of : Port → CellId → Reader

@@ -89,8 +89,8 @@ impl PendingQueue {
         ensures rest { self.new ≡ record self.old { wires = swap_remove self.old.wires place 0 } }
     {
         let last = self.wires[self.wires.len() - 1];
-        self.places.set(last, place);
         let wire = self.wires.swap_remove(place as usize);
+        self.places.set(last, place);
         self.pending.set(wire, false);
         wire
     }
@@ -101,8 +101,9 @@ impl PendingQueue {
         requires apart { occurrences wire.number self.old.wires ≡ 0 }
         ensures { self.new ≡ record self.old { wires = self.old.wires ++ wire.number ∷ [] } }
     {
-        self.places.set(wire, self.wires.len() as u32);
-        self.pending.set(wire, true);
+        let place = self.wires.len() as u32;
         self.wires.push_reserved(wire);
+        self.places.set(wire, place);
+        self.pending.set(wire, true);
     }
 }

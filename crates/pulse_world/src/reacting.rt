@@ -6,7 +6,7 @@ ghost use Rattle.cell_netlist.specs.declared.kinds.Port.{Port};
 ghost use Rattle.cell_netlist.specs.declared.lines.Reader.TheVariants.{From};
 ghost use Rattle.cell_netlist.specs.Tables.{arrival};
 ghost use Rattle.pulse_world.specs.PackedStates.{held_of, other_port};
-ghost use Rattle.pulse_world.specs.Reacting.{gate_in, port_of, target_at, Reacts, HasReacted};
+ghost use Rattle.pulse_world.specs.Reacting.{IsGateAt, port_of, target_at, Reacts, HasReacted};
 
 use crate::states::CellStates;
 use cell_netlist::{Cell, Gate, Port, Reader};
@@ -71,25 +71,30 @@ fn react_gate_at(cell_states: &mut CellStates<'_>, id: CellId, port: Port) -> Em
     requires { Reacts cell_states.old id.number (port_of port id) }
     ensures { HasReacted cell_states.old cell_states.new id.number (port_of port id) result }
 {
-    let Some((gate, out)) = gate_of(cell_states.cell(id)) else {
-        unreachable!()
-    };
+    match cell_states.cell(id) {
+        Cell::La { out, .. } => pulse_gate(cell_states, id, Gate::La, port, out),
+        Cell::Fa { out, .. } => pulse_gate(cell_states, id, Gate::Fa, port, out),
+        Cell::Split { .. } | Cell::Droc { .. } => unreachable!(),
+    }
+}
+
+// The same by which gate it is, and its output.
+fn pulse_gate(
+    cell_states: &mut CellStates<'_>,
+    id: CellId,
+    gate: Gate,
+    port: Port,
+    out: WireId,
+) -> Emitted
+    requires gate { IsGateAt cell_states.old id.number gate out }
+    requires reacts { Reacts cell_states.old id.number (port_of port id) }
+    ensures { HasReacted cell_states.old cell_states.new id.number (port_of port id) result }
+{
     let met = cell_states.pulse(id, port);
     if emits(gate, met) {
         Emitted::One(out)
     } else {
         Emitted::Nothing
-    }
-}
-
-// The gate that a cell is, and its output. None for a splitter or a DROC.
-fn gate_of(cell: Cell) -> Option<(Gate, WireId)>
-    ensures { result ≡ gate_in cell }
-{
-    match cell {
-        Cell::La { out, .. } => Some((Gate::La, out)),
-        Cell::Fa { out, .. } => Some((Gate::Fa, out)),
-        Cell::Split { .. } | Cell::Droc { .. } => None,
     }
 }
 

@@ -1,6 +1,6 @@
 //! The queue of the pending pulses.
 
-ghost use Rattle.std.specs.Prelude.{◌≡◌, ◌<◌, ◌≤◌, ◌↔◌, ◌++◌, ◌∷◌, [], true, None, Some, length, IfOk, IfSome, slice_get};
+ghost use Rattle.std.specs.Prelude.{◌≡◌, ◌<◌, ◌≤◌, ◌↔◌, ◌++◌, ◌∷◌, [], true, false, None, Some, length, IfOk, IfSome, slice_get, slice_set};
 ghost use Rattle.std.specs.List.{swap_remove};
 ghost use Rattle.pulse_ids.specs.Lists.{IsIn, occurrences};
 ghost use Rattle.pulse_world.specs.PendingQueues.{queue_of};
@@ -91,7 +91,7 @@ impl PendingQueue {
         let last = self.wires[self.wires.len() - 1];
         let wire = self.wires.swap_remove(place as usize);
         self.places.set(last, place);
-        self.pending.set(wire, false);
+        unmark(&mut self.pending, wire);
         wire
     }
 
@@ -106,4 +106,12 @@ impl PendingQueue {
         self.places.set(wire, place);
         self.pending.set(wire, true);
     }
+}
+
+// Sets the bit of a wire below their number to 0.
+fn unmark(marks: &mut Bits<WireId>, wire: WireId)
+    requires { wire.number < length marks.old }
+    ensures { marks.new ≡ slice_set marks.old wire.number false }
+{
+    marks.set(wire, false);
 }

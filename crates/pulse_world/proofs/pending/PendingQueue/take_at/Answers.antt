@@ -16,8 +16,8 @@ set-requires c =
     let last = number-at c.self.inside.wires.items (c.len.result - 1) c.index-last.result.now (omega arith) c.index-last.ensures in
     slice_get_within c.self.inside.places c.index-last.result.now.number (c.len.result - 1) (c.self.invariant.placed (c.len.result - 1) c.index-last.result.now.number last)
 
-pub set-requires-2 : goal.set-requires-2
-set-requires-2 c =
+pub unmark-requires : goal.unmark-requires
+unmark-requires c =
     let count = length-map c.self.inside.wires.items number_in in
     let inside : c.args.place < length (map number_in c.self.inside.wires.items) = subst (λ (queue : PlainQueue). c.args.place < length queue.wires) (sym c.self.view_is) c.requires in
     let here = number-at c.self.inside.wires.items c.args.place c.swap_remove-wire.result (omega arith) c.swap_remove-wire.ensures.value in
@@ -32,7 +32,7 @@ invariant_of-self c =
     let last = number-at c.self.inside.wires.items (c.len.result - 1) c.index-last.result.now (omega arith) c.index-last.ensures in
     let at_last = subst (λ k. slice_get (map number_in c.self.inside.wires.items) k ≡ Some c.index-last.result.now.number) long last in
     let here = number-at c.self.inside.wires.items c.args.place c.swap_remove-wire.result (omega arith) c.swap_remove-wire.ensures.value in
-    rw (c.set.ensures, c.set-2.ensures, c.swap_remove-wire.ensures.items, c.swap_remove-wire.ensures.capacity)
+    rw (c.set.ensures, c.unmark.ensures, c.swap_remove-wire.ensures.items, c.swap_remove-wire.ensures.capacity)
     (queue-remove c.self.inside.wires.items c.self.inside.places c.self.inside.pending _ c.args.place c.swap_remove-wire.result c.index-last.result.now _
     c.self.invariant (omega arith) here at_last)
 

@@ -91,5 +91,9 @@ returns g c =
       after = c.loop-number.world;
       of_vectors = so.of_vectors ∙ take-all c.args.vectors.now.vectors c.loop-number.number (omega arith);
       made = so.made;
-      wrote = record { whole = c.loop-number.invariant.so.grown; prefix = tt; cause = record { later = let l = c.loop-number.invariant.calm in omega arith; failed = tt; kept = c.loop-number.invariant.calm } };
+      wrote = record {
+        whole = c.loop-number.invariant.so.grown;
+        prefix = tt;
+        cause = record { later = let l = c.loop-number.invariant.calm in omega arith; failed = tt; kept = c.loop-number.invariant.calm };
+      };
     }

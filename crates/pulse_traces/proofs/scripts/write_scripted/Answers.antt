@@ -62,7 +62,11 @@ returns-in-Err g c =
       up_to = scripts-stop c.args.trace c.args.world.now (scripted c.args.vectors.now) (g.K.Sink.taken c.args.out.now) c.loop-number.number c.loop-number.world _ (g.K.Sink.taken c.loop-number.out)
           c.loop-number.invariant.so at _ refl c.in-Err.ensures.fails;
       tells = refl;
-      wrote = record { whole = c.loop-number.invariant.so.grown; prefix = tt; cause = record { later = let l = c.loop-number.invariant.calm in omega arith; failed = tt; kept = c.loop-number.invariant.calm } };
+      wrote = record {
+        whole = c.loop-number.invariant.so.grown;
+        prefix = tt;
+        cause = record { later = let l = c.loop-number.invariant.calm in omega arith; failed = tt; kept = c.loop-number.invariant.calm };
+      };
     }
 
 pub loop-number-preserved : goal.loop-number-preserved
@@ -97,7 +101,12 @@ returns g c =
     record {
       made = take c.loop-number.number asked;
       fault = None;
-      up_to = scripts-all c.args.trace c.args.world.now asked (g.K.Sink.taken c.args.out.now) c.loop-number.number c.loop-number.world (g.K.Sink.taken c.loop-number.out) c.loop-number.invariant.so (omega arith);
+      up_to = scripts-all c.args.trace c.args.world.now asked (g.K.Sink.taken c.args.out.now)
+          c.loop-number.number c.loop-number.world (g.K.Sink.taken c.loop-number.out) c.loop-number.invariant.so (omega arith);
       tells = refl;
-      wrote = record { whole = c.loop-number.invariant.so.grown; prefix = tt; cause = record { later = let l = c.loop-number.invariant.calm in omega arith; failed = tt; kept = c.loop-number.invariant.calm } };
+      wrote = record {
+        whole = c.loop-number.invariant.so.grown;
+        prefix = tt;
+        cause = record { later = let l = c.loop-number.invariant.calm in omega arith; failed = tt; kept = c.loop-number.invariant.calm };
+      };
     }

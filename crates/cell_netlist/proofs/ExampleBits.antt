@@ -1,7 +1,7 @@
 -- The equations of the toggle flip-flop, and the texts of two netlists.
-use Rattle.std.proofs.Common.{◌≡◌, Bool, true, false, not, List, [], ◌∷◌, map, length, refl, ap, inl, inr, arith, ◌∙◌, subst}
+use Rattle.std.proofs.Common.{◌≡◌, Bool, true, false, not, List, [], ◌∷◌, map, length, refl, ap, inl, inr, arith, ◌∙◌}
 use Rattle.std.proofs.lemmas.Fmt.{decimal_digit}
-use Rattle.pulse_ids.specs.Lists.{IsIn, bit_at}
+use Rattle.pulse_ids.specs.Lists.{bit_at}
 use Rattle.cell_netlist.specs.RailEquations.{LatchState, CellEquation, IsRails, first_state, next_state, IsNetRun}
 use Rattle.cell_netlist.specs.ExampleNetlists.{toggle}
 use Rattle.cell_netlist.specs.ExampleRuns.{two_empty, ToggleBits}

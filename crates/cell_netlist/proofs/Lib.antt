@@ -19,6 +19,7 @@ pub mod LineTexts
 pub mod NetlistTexts
 pub mod MomentShapes
 pub mod TableLemmas
+pub mod CodeLemmas
 pub mod WireBounds
 pub mod WireLemmas
 pub mod PlaceWires

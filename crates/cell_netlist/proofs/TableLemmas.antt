@@ -1,5 +1,5 @@
 -- Tables of places: what is written stands there.
-use Rattle.std.proofs.Common.{◌≡◌, ◌<◌, ◌+◌, ℕ, zero, suc, max, ◌==◌, false, Some, List, [], ◌∷◌, ◌++◌, map, length, drop, replicate, slice_get, slice_set, ap, sym, ◌∙◌, subst, inl, inr, arith, refl}
+use Rattle.std.proofs.Common.{◌≡◌, ◌<◌, ◌+◌, ℕ, max, ◌==◌, false, Some, List, [], ◌∷◌, ◌++◌, map, length, drop, replicate, slice_get, slice_set, ap, sym, ◌∙◌, subst, inl, inr, arith, refl}
 use Rattle.std.specs.List.{flat_map}
 use Rattle.std.proofs.lemmas.Bool.{cases_Bool, eqb-true, eq-eqb}
 use Rattle.std.proofs.lemmas.Option.{slice_get_within}

@@ -7,7 +7,7 @@ use Rattle.pulse_ids.specs.declared.literals.Sign.TheVariants.{Pos, Neg}
 use Rattle.cell_netlist.specs.declared.kinds.Role.TheVariants.{Front, Back, Const}
 use Rattle.cell_netlist.specs.declared.lines.Rail.{Rail}
 use Rattle.cell_netlist.specs.declared.lines.Cell.{Cell}
-use Rattle.cell_netlist.specs.declared.lines.Cell.TheVariants.{Split, Droc}
+use Rattle.cell_netlist.specs.declared.lines.Cell.TheVariants.{Droc}
 use Rattle.pulse_ids.specs.Lists.{IsIn, occurrences}
 use Rattle.cell_netlist.specs.Netlists.{PlainNetlist, wire_of, used, splitter_of, droc_of, outs, reads, driven, read, number_of_wires, IsDroc, Grounded}
 use Rattle.cell_netlist.specs.RailEquations.{is_front_to, is_back_from, preload_of}

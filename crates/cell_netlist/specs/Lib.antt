@@ -24,6 +24,7 @@ pub mod ExampleLeanness
 pub mod ExampleTexts
 pub mod OneReader
 pub mod Refused
+pub mod PlaceCodes
 pub mod PlaceTables
 pub mod Wired
 pub mod WireLaws

@@ -10,6 +10,7 @@ mod kinds;
 mod laws;
 mod lines;
 mod netlists;
+mod place_tables;
 mod sound_nets;
 mod tables;
 mod unsound;

@@ -5,13 +5,15 @@ ghost use Rattle.std.specs.List.{flat_map};
 ghost use Rattle.pulse_ids.specs.Ids.{numbered};
 ghost use Rattle.cell_netlist.specs.declared.lines.Driver.TheVariants as drivers_of;
 ghost use Rattle.cell_netlist.specs.declared.lines.Reader.TheVariants as readers_of;
-ghost use Rattle.cell_netlist.specs.Netlists.{number_of_wires, wire_bound, wire_of, outs, reads, used};
+ghost use Rattle.cell_netlist.specs.Netlists.{most_lines, number_of_wires, wire_bound, wire_of, outs, reads, used};
 ghost use Rattle.cell_netlist.specs.Places.{drivers, readers, driving, reading, place_if_used, cell_places, rail_places, driving_places, reading_places};
+ghost use Rattle.cell_netlist.specs.PlaceCodes.{driver_line};
 ghost use Rattle.cell_netlist.specs.PlaceTables.{written};
 ghost use Rattle.cell_netlist.specs.Sound.{IsSound};
 
 use crate::lines::{Cell, Driver, Rail, Reader};
 use crate::netlists::Netlist;
+use crate::place_tables::PlaceTable;
 use pulse_ids::{CellId, Ident, NoMemory, RailId, Row, WireId};
 use std::alloc::Global;
 use std::marker::Model;
@@ -20,8 +22,8 @@ use std::marker::Model;
 #[derive(Debug, Drop)]
 pub struct SoundNet {
     net: Netlist,
-    drivers: Row<WireId, Driver>,
-    readers: Row<WireId, Reader>,
+    drivers: PlaceTable<Driver>,
+    readers: PlaceTable<Reader>,
 }
 
 impl Model for SoundNet {
@@ -70,7 +72,7 @@ impl SoundNet {
         requires { wire.number < number_of_wires self.now }
         ensures { drivers self.now wire.number ≡ result ∷ [] }
     {
-        *self.drivers.get(wire)
+        self.drivers.get(wire)
     }
 
     /// The one place that reads the wire, which is below the number of wires. It takes constant time.
@@ -78,7 +80,7 @@ impl SoundNet {
         requires { wire.number < number_of_wires self.now }
         ensures { readers self.now wire.number ≡ result ∷ [] }
     {
-        *self.readers.get(wire)
+        self.readers.get(wire)
     }
 
     /// The netlist by itself.
@@ -91,27 +93,28 @@ impl SoundNet {
 }
 
 // The driving places, each written at its wire.
-fn driver_table(alloc: Global, net: &Netlist) -> Result<Row<WireId, Driver>, NoMemory>
+fn driver_table(alloc: Global, net: &Netlist) -> Result<PlaceTable<Driver>, NoMemory>
     ensures { IfOk result (λ table. table ≡ written (driving_places net.now) (replicate (number_of_wires net.now) (drivers_of.Input (numbered 0)))) }
 {
-    let mut table = Row::filled(alloc, Driver::Input(RailId::new(0)), net.wires())?;
+    let mut table = PlaceTable::filled(alloc, Driver::Input(RailId::new(0)), net.wires())?;
     drive_by_rails(net.input_rails(), &mut table);
     drive_by_cells(net.cells(), &mut table);
     Ok(table)
 }
 
 // The reading places, each written at its wire.
-fn reader_table(alloc: Global, net: &Netlist) -> Result<Row<WireId, Reader>, NoMemory>
+fn reader_table(alloc: Global, net: &Netlist) -> Result<PlaceTable<Reader>, NoMemory>
     ensures { IfOk result (λ table. table ≡ written (reading_places net.now) (replicate (number_of_wires net.now) (readers_of.Output (numbered 0)))) }
 {
-    let mut table = Row::filled(alloc, Reader::Output(RailId::new(0)), net.wires())?;
+    let mut table = PlaceTable::filled(alloc, Reader::Output(RailId::new(0)), net.wires())?;
     read_by_cells(net.cells(), &mut table);
     read_by_rails(net.output_rails(), &mut table);
     Ok(table)
 }
 
-fn drive_by_rails(rails: &Row<RailId, Rail>, table: &mut Row<WireId, Driver>)
-    requires { wire_bound (map wire_of rails.now) ≤ length table.old }
+fn drive_by_rails(rails: &Row<RailId, Rail>, table: &mut PlaceTable<Driver>)
+    requires wires { wire_bound (map wire_of rails.now) ≤ length table.old }
+    requires few { length rails.now ≤ most_lines }
     ensures { table.new ≡ written (rail_places (λ r. drivers_of.Input (numbered r)) 0 rails.now) table.old }
 {
     for number in 0..rails.len() {
@@ -120,8 +123,9 @@ fn drive_by_rails(rails: &Row<RailId, Rail>, table: &mut Row<WireId, Driver>)
     }
 }
 
-fn read_by_rails(rails: &Row<RailId, Rail>, table: &mut Row<WireId, Reader>)
-    requires { wire_bound (map wire_of rails.now) ≤ length table.old }
+fn read_by_rails(rails: &Row<RailId, Rail>, table: &mut PlaceTable<Reader>)
+    requires wires { wire_bound (map wire_of rails.now) ≤ length table.old }
+    requires few { length rails.now ≤ most_lines }
     ensures { table.new ≡ written (rail_places (λ r. readers_of.Output (numbered r)) 0 rails.now) table.old }
 {
     for number in 0..rails.len() {
@@ -130,8 +134,9 @@ fn read_by_rails(rails: &Row<RailId, Rail>, table: &mut Row<WireId, Reader>)
     }
 }
 
-fn drive_by_cells(cells: &Row<CellId, Cell>, table: &mut Row<WireId, Driver>)
-    requires { wire_bound (flat_map outs cells.now) ≤ length table.old }
+fn drive_by_cells(cells: &Row<CellId, Cell>, table: &mut PlaceTable<Driver>)
+    requires wires { wire_bound (flat_map outs cells.now) ≤ length table.old }
+    requires few { length cells.now ≤ most_lines }
     ensures { table.new ≡ written (cell_places driving 0 cells.now) table.old }
 {
     for number in 0..cells.len() {
@@ -140,8 +145,9 @@ fn drive_by_cells(cells: &Row<CellId, Cell>, table: &mut Row<WireId, Driver>)
     }
 }
 
-fn read_by_cells(cells: &Row<CellId, Cell>, table: &mut Row<WireId, Reader>)
-    requires { wire_bound (flat_map reads cells.now) ≤ length table.old }
+fn read_by_cells(cells: &Row<CellId, Cell>, table: &mut PlaceTable<Reader>)
+    requires wires { wire_bound (flat_map reads cells.now) ≤ length table.old }
+    requires few { length cells.now ≤ most_lines }
     ensures { table.new ≡ written (cell_places reading 0 cells.now) table.old }
 {
     for number in 0..cells.len() {
@@ -150,8 +156,9 @@ fn read_by_cells(cells: &Row<CellId, Cell>, table: &mut Row<WireId, Reader>)
     }
 }
 
-fn drive_by_cell(id: CellId, cell: Cell, table: &mut Row<WireId, Driver>)
-    requires { wire_bound (outs cell) ≤ length table.old }
+fn drive_by_cell(id: CellId, cell: Cell, table: &mut PlaceTable<Driver>)
+    requires wires { wire_bound (outs cell) ≤ length table.old }
+    requires line { id.number < most_lines }
     ensures { table.new ≡ written (driving id.number cell) table.old }
 {
     match cell {
@@ -167,8 +174,9 @@ fn drive_by_cell(id: CellId, cell: Cell, table: &mut Row<WireId, Driver>)
     }
 }
 
-fn drive_by_output(output: Option<WireId>, place: Driver, table: &mut Row<WireId, Driver>)
-    requires { wire_bound (used output) ≤ length table.old }
+fn drive_by_output(output: Option<WireId>, place: Driver, table: &mut PlaceTable<Driver>)
+    requires wires { wire_bound (used output) ≤ length table.old }
+    requires line { driver_line place < most_lines }
     ensures { table.new ≡ written (place_if_used output place) table.old }
 {
     if let Some(wire) = output {
@@ -176,8 +184,9 @@ fn drive_by_output(output: Option<WireId>, place: Driver, table: &mut Row<WireId
     }
 }
 
-fn read_by_cell(id: CellId, cell: Cell, table: &mut Row<WireId, Reader>)
-    requires { wire_bound (reads cell) ≤ length table.old }
+fn read_by_cell(id: CellId, cell: Cell, table: &mut PlaceTable<Reader>)
+    requires wires { wire_bound (reads cell) ≤ length table.old }
+    requires line { id.number < most_lines }
     ensures { table.new ≡ written (reading id.number cell) table.old }
 {
     match cell {

@@ -4,7 +4,7 @@ use Rattle.std.proofs.lemmas.List.{get_or-map, map-set, map-append, length-map, 
 use Rattle.pulse_ids.specs.Ids.{WireId}
 use Rattle.pulse_ids.specs.Lists.{IsIn}
 use Rattle.rail_mapper.specs.declared.shelves.Shelf.{Shelf}
-use Rattle.rail_mapper.specs.Shelves.{bare_shelf, numbers_of, leaves_on, AreInTable, TakesFirst}
+use Rattle.rail_mapper.specs.Shelves.{bare_shelf, shelf_after, numbers_of, leaves_on, AreInTable, TakesFirst}
 
 pub replicate_last : {X : Type 0} (n : ℕ) (x : X) → replicate n x ++ x ∷ [] ≡ replicate (n + 1) x
 replicate_last zero x = refl
@@ -87,10 +87,6 @@ map_on : {X Y : Type 0} (f g : X → Y) (xs : List X) → ((x : X) → IsIn x xs
 map_on f g [] same = refl
 map_on f g (x ∷ xs) same = rw (same x (inl refl)) (ap (λ ys. g x ∷ ys) (map_on f g xs (λ y m. same y (inr m))))
 
--- the shelf from which a leaf was taken
-abbrev pub shelf_after : Shelf → Shelf
-shelf_after shelf = record { first = shelf.first + 1; end = shelf.end }
-
 module _ (wires : List WireId) (shelves : List Shelf) (rail : ℕ) (old : Shelf) (before : List (List ℕ)) (same : map (leaves_on (numbers_of wires)) shelves ≡ before)
     (some : 1 ≤ length (get_or before rail [])) (at : old ≡ get_or shelves rail old) where
   low : rail < length shelves
@@ -106,7 +102,7 @@ module _ (wires : List WireId) (shelves : List Shelf) (rail : ℕ) (old : Shelf)
   is_old = ap (λ (l : List (List ℕ)). get_or l rail []) (sym same)
       ∙ get_or-map (leaves_on (numbers_of wires)) shelves rail old [] low ∙ ap (leaves_on (numbers_of wires)) (sym at)
 
-  begins : (1 ≤ old.end - old.first) × (old.first < length (numbers_of wires))
+  pub begins : (1 ≤ old.end - old.first) × (old.first < length (numbers_of wires))
   begins = part_begins (numbers_of wires) old.first (old.end - old.first) (omega (arith, some, ap (λ (l : List ℕ). length l) is_old))
 
   pub taken_first : (wire : WireId) → wire ≡ get_or wires old.first wire

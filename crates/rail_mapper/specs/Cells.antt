@@ -14,7 +14,6 @@ use Rattle.graph_build.specs.Built.{PlainBuilt}
 use Rattle.rail_demand.specs.Demands.{PlainDemand, is_needed}
 use Rattle.rail_mapper.specs.LatchStages.{latches_needed}
 use Rattle.rail_mapper.specs.Tracks.{sign_gate}
-use Rattle.cell_netlist.specs.declared.kinds.Gate.TheVariants as gates
 
 -- the gate that a cell is, if it is one
 abbrev pub gate_in : Cell → List Gate

@@ -1,5 +1,5 @@
 -- The leaves of all rails, in one table.
-use Rattle.std.specs.Prelude.{◌≡◌, ◌≤◌, ◌-◌, ℕ, List, [], ◌∷◌, map, take, drop, slice_index_or, slice_set}
+use Rattle.std.specs.Prelude.{◌≡◌, ◌≤◌, ◌+◌, ◌-◌, ℕ, List, [], ◌∷◌, map, take, drop, slice_index_or, slice_set}
 use Rattle.pulse_ids.specs.Ids.{WireId}
 use Rattle.pulse_ids.specs.Lists.{IsIn}
 use Rattle.rail_mapper.specs.declared.shelves.Shelf.{Shelf}
@@ -11,6 +11,10 @@ numbers_of wires = map (λ (wire : WireId). wire.number) wires
 -- a shelf with no leaf
 abbrev pub bare_shelf : Shelf
 bare_shelf = record { first = 0; end = 0 }
+
+-- a shelf without its first leaf
+abbrev pub shelf_after : Shelf → Shelf
+shelf_after shelf = record { first = shelf.first + 1; end = shelf.end }
 
 -- the leaves that stand on a shelf of the table
 abbrev pub leaves_on : List ℕ → Shelf → List ℕ

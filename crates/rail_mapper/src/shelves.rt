@@ -1,7 +1,7 @@
 //! The leaves of all rails, in one table.
 
 ghost use Rattle.std.specs.Prelude.{◌≡◌, ◌≤◌, ◌<◌, ◌++◌, [], ℕ, map, length, replicate, slice_index_or, slice_set, IfOk, OnOk};
-ghost use Rattle.rail_mapper.specs.Shelves.{bare_shelf, numbers_of, TakesFirst};
+ghost use Rattle.rail_mapper.specs.Shelves.{bare_shelf, shelf_after, numbers_of, TakesFirst};
 
 use pulse_ids::{NoMemory, WireId};
 use splitter_trees::Leaves;
@@ -11,8 +11,8 @@ use std::marker::Model;
 /// Where the leaves of a rail stand in the table: from the first that is not taken up to an end.
 #[derive(Clone, Copy, Debug)]
 pub(crate) struct Shelf {
-    pub(crate) first: usize,
-    pub(crate) end: usize,
+    pub(crate) first: u32,
+    pub(crate) end: u32,
 }
 
 /// The leaves of each rail that are not taken yet, each rail's in a row of one table. A value of this type is the
@@ -50,25 +50,34 @@ impl Shelves {
         requires { 1 ≤ length (slice_index_or self.old rail []) }
         ensures { TakesFirst rail result.number self.old self.new }
     {
-        let Shelf { first, end } = self.shelves[rail as usize];
-        let wire = self.wires[first];
-        self.shelves[rail as usize] = Shelf {
-            first: first + 1,
-            end,
-        };
+        let shelf = self.shelves[rail as usize];
+        let wire = self.wires[shelf.first as usize];
+        self.shelves[rail as usize] = without_first(shelf);
         wire
     }
 
-    /// Gives a rail these leaves and no other. It takes time in the number of leaves.
+    /// Gives a rail these leaves and no other. It takes time in the number of leaves. A table of 2^32 leaves is refused
+    /// its memory.
     pub(crate) fn put(&mut self, rail: u32, leaves: &Leaves) -> Result<(), NoMemory>
         requires { rail < length self.old }
         ensures { OnOk result (self.new ≡ slice_set self.old rail leaves.now) }
     {
-        let first = self.wires.len();
+        let first = place_behind(&self.wires)?;
         append(&mut self.wires, leaves)?;
-        let end = self.wires.len();
+        let end = place_behind(&self.wires)?;
         self.shelves[rail as usize] = Shelf { first, end };
         Ok(())
+    }
+}
+
+// A shelf with a leaf, without the first one.
+fn without_first(shelf: Shelf) -> Shelf
+    requires { shelf.first < shelf.end }
+    ensures { result ≡ shelf_after shelf }
+{
+    Shelf {
+        first: shelf.first + 1,
+        end: shelf.end,
     }
 }
 
@@ -82,6 +91,16 @@ fn bare_shelves(alloc: Global, count: u32) -> Result<Vec<Shelf>, NoMemory>
         shelves.push(Shelf { first: 0, end: 0 })?;
     }
     Ok(shelves)
+}
+
+// The place behind a table of fewer than 2^32 leaves.
+fn place_behind(wires: &Vec<WireId>) -> Result<u32, NoMemory>
+    ensures { IfOk result (λ place. place ≡ length wires.now.items) }
+{
+    match u32::try_from(wires.len()) {
+        Ok(place) => Ok(place),
+        Err(_) => Err(NoMemory),
+    }
 }
 
 // Adds the leaves at the end of the table.

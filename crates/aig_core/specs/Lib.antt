@@ -3,6 +3,7 @@ pub mod Examples
 pub mod Folds
 pub mod Graphs
 pub mod Growth
+pub mod KeptPairs
 pub mod Laws
 pub mod Pairs
 pub mod Tidy

@@ -1,0 +1,7 @@
+use Rattle.aig_core.proofs.PairLemmas.{indexed_goes_on}
+use Rattle.aig_core.proofs.kept_pairs.indexed.Goals as goal
+
+pub loop-pair-preserved : goal.loop-pair-preserved
+loop-pair-preserved c =
+    indexed_goes_on c.args.list.now c.loop-pair.pair-index c.in_ok-insert.field-0 _ c.loop-pair.set.keys c.insert.new.set.keys c.requires c.loop-pair-test.true c.loop-pair.invariant
+    c.in_ok-insert.ensures.placed

@@ -1,29 +1,17 @@
 -- What the index of the pairs does to their list.
-use Rattle.std.proofs.Common.{◌≡◌, ℕ, zero, suc, ◌+◌, ◌<◌, ◌&&◌, ◌==◌, ◌⊎◌, inl, inr, List, [], ◌∷◌, ◌++◌, length, take, get_or, slice_get, Some, Bool, true, false, if◌then◌else◌, refl, sym, ◌∙◌, ap, arith, true≢false}
+use Rattle.std.proofs.Common.{◌≡◌, ℕ, zero, suc, ◌+◌, ◌<◌, ◌&&◌, ◌==◌, ◌⊎◌, inl, inr, List, [], ◌∷◌, ◌++◌, length, take, get_or, slice_get, Some, Bool, true, false, if◌then◌else◌, refl, sym, ◌∙◌, ap, arith, true≢false, eq-eqb}
 use Rattle.std.specs.List.{list_any}
-use Rattle.std.specs.Bool.{beq}
 use Rattle.std.proofs.lemmas.List.{take_more}
+use Rattle.std.proofs.lemmas.Bool.{eqb-true}
 use Rattle.std.proofs.lemmas.Option.{slice_get-get_or}
 use Rattle.std.proofs.lemmas.Map.Keys.{any_passes_from_place}
 use Rattle.std.proofs.lemmas.List.Folds.{Any-from_list_any}
-use Rattle.pulse_ids.specs.Ids.{NodeLit}
 use Rattle.indexmap.specs.IndexSet.{insert_key}
 use Rattle.aig_core.specs.declared.pairs.Pair.{Pair}
-use Rattle.aig_core.specs.Folds.{is_same}
 use Rattle.aig_core.specs.KeptPairs.{IsOnce, IsMissing, IsPlaced, found, added}
-use Rattle.aig_core.proofs.FoldLemmas.{same_exact, same_self, and_left, and_right}
+use Rattle.aig_core.specs.Pairs.{literal_code}
+use Rattle.aig_core.proofs.FoldLemmas.{code_exact, and_left, and_right}
 use Rattle.aig_core.proofs.TidyLemmas.{item_of_more}
-
--- whether two literals are the same, as the derived `==` tells
-abbrev pub literal_same : NodeLit → NodeLit → Bool
-literal_same a b = ((a.id.number == b.id.number) && true) && beq a.negated b.negated
-
-and-true : (t : Bool) → (t && true) ≡ t
-and-true true = refl
-and-true false = refl
-
-literal_same-is : (a b : NodeLit) → literal_same a b ≡ is_same a b
-literal_same-is a b = ap (λ t. t && beq a.negated b.negated) (and-true (a.id.number == b.id.number))
 
 -- the item that passes a test, at its place
 item_of_any : {X : Type 0} (test : X → Bool) (xs : List X) → list_any test xs ≡ true → (k : ℕ) × (x : X) × (slice_get xs k ≡ Some x) × (test x ≡ true)
@@ -31,19 +19,21 @@ item_of_any test xs h =
     let r = Any-from_list_any test xs h in
     (r.0, r.1, slice_get-get_or xs r.0 r.1 r.2 ∙ ap Some r.3, r.4)
 
--- whether two pairs are the same
+-- whether two pairs are the same, as the derived `==` tells by their codes
 abbrev pub pair_same : Pair → Pair → Bool
-pair_same a b = literal_same a.low b.low && literal_same a.high b.high
+pair_same a b = (literal_code a.low == literal_code b.low) && (literal_code a.high == literal_code b.high)
 
-pair_exact : (a b : Pair) → pair_same a b ≡ true → a ≡ b
+pub pair_exact : (a b : Pair) → pair_same a b ≡ true → a ≡ b
 pair_exact a b e =
-    let low : a.low ≡ b.low = same_exact a.low b.low (sym (literal_same-is a.low b.low) ∙ and_left (literal_same a.low b.low) (literal_same a.high b.high) e) in
-    let high : a.high ≡ b.high = same_exact a.high b.high (sym (literal_same-is a.high b.high) ∙ and_right (literal_same a.low b.low) (literal_same a.high b.high) e) in
+    let lows = literal_code a.low == literal_code b.low in
+    let highs = literal_code a.high == literal_code b.high in
+    let low : a.low ≡ b.low = code_exact a.low b.low (eqb-true (literal_code a.low) (literal_code b.low) (and_left lows highs e)) in
+    let high : a.high ≡ b.high = code_exact a.high b.high (eqb-true (literal_code a.high) (literal_code b.high) (and_right lows highs e)) in
     λ i. record { low = low i; high = high i }
 
-pair_self : (a : Pair) → pair_same a a ≡ true
+pub pair_self : (a : Pair) → pair_same a a ≡ true
 pair_self a =
-    ap (λ t. t && literal_same a.high a.high) (literal_same-is a.low a.low ∙ same_self a.low) ∙ literal_same-is a.high a.high ∙ same_self a.high
+    ap (λ t. t && (literal_code a.high == literal_code a.high)) (eq-eqb (literal_code a.low) (literal_code a.low) refl) ∙ eq-eqb (literal_code a.high) (literal_code a.high) refl
 
 module _ (pairs : List Pair) (pair : Pair) where
   found_any : (place : ℕ) → slice_get pairs place ≡ Some pair → list_any (pair_same pair) pairs ≡ true

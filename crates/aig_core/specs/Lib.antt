@@ -6,5 +6,6 @@ pub mod Growth
 pub mod KeptPairs
 pub mod Laws
 pub mod Pairs
+pub mod PlainPairs
 pub mod Tidy
 pub mod Values

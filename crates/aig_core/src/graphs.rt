@@ -155,7 +155,7 @@ impl Graph {
         ensures { slice_get (nodes_of self.now) (first_conjunction self.now + place) ≡ Some result }
     {
         let pair = self.pairs.as_slice()[place as usize];
-        Node::And(pair.low, pair.high)
+        Node::And(pair.low(), pair.high())
     }
 
     /// The literal of the conjunction at this place among the conjunctions, at most 262,144.

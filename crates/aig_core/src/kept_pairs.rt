@@ -13,7 +13,7 @@ use std::alloc::Global;
 pub(crate) enum KeptPairs {
     /// With an index, by which a pair's place is found.
     Indexed(IndexSet<Pair>),
-    /// The pairs alone, which take less than half the memory.
+    /// The pairs alone, in 8 bytes each.
     Listed(Vec<Pair>),
 }
 
@@ -98,7 +98,7 @@ fn place_of(list: &[Pair], pair: Pair) -> Option<usize>
     ensures found { IfSome result (λ place. slice_get list.now place ≡ Some pair) }
     ensures missing { IfNone result (IsMissing list.now pair) }
 {
-    list.iter().position(|other| *other == pair)
+    list.iter().position(|other| other.is(pair))
 }
 
 /// The pairs of a list with an index of them.

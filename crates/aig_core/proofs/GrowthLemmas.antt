@@ -1,6 +1,5 @@
 -- What one conjunction does, from what placing its pair does.
 use Rattle.std.proofs.Common.{◌≡◌, ℕ, ◌+◌, ◌<◌, ◌^◌, ◌⊎◌, inl, inr, ◌&&◌, List, [], ◌∷◌, slice_get, Some, Ok, Err, IfOk, OnErr, Bool, true, false, nat_lt, if◌then◌else◌, refl, sym, ◌∙◌, ap, subst, arith, length-append}
-use Rattle.std.specs.List.{list_any}
 use Rattle.std.specs.declared.result.Result.{Result}
 use Rattle.pulse_ids.specs.Ids.{NodeLit}
 use Rattle.pulse_ids.specs.declared.memory.NoMemory.{NoMemory}
@@ -15,7 +14,7 @@ use Rattle.aig_core.proofs.CallerLemmas.{slice_get-left, slice_get_bound}
 use Rattle.aig_core.proofs.NodeLemmas.{length_nodes, nodes-with_pair}
 use Rattle.aig_core.proofs.ValueLemmas.{value-conjunction, value-kept, value-added}
 use Rattle.aig_core.proofs.FoldLemmas.{folds_swapped, and_swapped}
-use Rattle.aig_core.proofs.PlaceLemmas.{item_of_any, pair_same, pair_exact, absent_from_any}
+use Rattle.aig_core.proofs.PairLemmas.{placed_or_missing}
 
 -- a kept graph has few nodes
 pub count_bound : (graph : PlainGraph) → IsKept graph → count_of graph < 2 ^ 31
@@ -61,17 +60,10 @@ pub record Places (old new : PlainGraph) (pair : Pair) (result : Result NodeLit 
 
 module _ (old new : PlainGraph) (pair : Pair) where
   outcome : (literal : NodeLit) → Places old new pair (Ok literal) → IsFound old new pair literal ⊎ IsAdded old new pair literal
-  outcome literal places = go (list_any (pair_same pair) old.pairs) refl
-    where
-      go : (t : Bool) → list_any (pair_same pair) old.pairs ≡ t → IsFound old new pair literal ⊎ IsAdded old new pair literal
-      go true e =
-          let r = item_of_any (pair_same pair) old.pairs e in
-          let at : slice_get old.pairs r.0 ≡ Some pair = r.2 ∙ ap Some (sym (pair_exact pair r.1 r.3)) in
-          let found = places.found r.0 at in
-          let same : literal ≡ positive (first_conjunction old + r.0) = let given = found.0 in cc in
-          inl (r.0, at, same, found.1)
-      go false e =
-          let absent = absent_from_any old pair e in let added = places.added absent in inr (absent, added.0, added.1)
+  outcome literal places = elim (placed_or_missing old.pairs pair) [
+    | inl at ↦ let found = places.found at.0 at.1 in let same : literal ≡ positive (first_conjunction old + at.0) = let given = found.0 in cc in inl (at.0, at.1, same, found.1)
+    | inr absent ↦ let added = places.added absent in inr (absent, added.0, added.1)
+  ]
 
   pub placed_grows : (result : Result NodeLit NoMemory) → Places old new pair result → Grows old new
   placed_grows (Ok literal) places = elim (outcome literal places) [

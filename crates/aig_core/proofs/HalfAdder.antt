@@ -7,7 +7,7 @@ use Rattle.aig_core.specs.Tidy.{IsTidy}
 use Rattle.aig_core.specs.Examples.{two_inputs, half_adder, inputs_pair, swapped_pair, AddsTwoBits, TidyIsJudged, FoldsAreJudged}
 use Rattle.aig_core.specs.Values.{value_of}
 use Rattle.aig_core.proofs.FoldLemmas.{never_folds}
-use Rattle.aig_core.proofs.PlaceLemmas.{absent_from_any}
+use Rattle.aig_core.proofs.PairLemmas.{missing_from_any}
 use Rattle.aig_core.proofs.TidyLemmas.{tidy_added, ordered_tidy}
 
 sum_is : (a b : Bool) → value_of half_adder [] (a ∷ b ∷ []) (positive 5) ≡ (if a then not b else b)
@@ -37,13 +37,13 @@ tidy_half_adder =
     let two : PlainGraph = with_pair one (pair_of (complement (positive 2)) (complement (positive 1))) in
     let tidy_one : IsTidy one = tidy_added two_inputs (pair_of (positive 1) (positive 2)) tidy_two_inputs
     (ordered_tidy (positive 1) (positive 2) 3 (omega arith) (omega arith) (never_folds (positive 1) (positive 2) refl))
-    (absent_from_any two_inputs (pair_of (positive 1) (positive 2)) refl) in
+    (missing_from_any two_inputs.pairs (pair_of (positive 1) (positive 2)) refl) in
     let tidy_two : IsTidy two = tidy_added one (pair_of (complement (positive 2)) (complement (positive 1))) tidy_one
     (ordered_tidy (complement (positive 2)) (complement (positive 1)) 4 (omega arith) (omega arith)
-    (never_folds (complement (positive 2)) (complement (positive 1)) refl)) (absent_from_any one (pair_of (complement (positive 2)) (complement (positive 1))) refl) in
+    (never_folds (complement (positive 2)) (complement (positive 1)) refl)) (missing_from_any one.pairs (pair_of (complement (positive 2)) (complement (positive 1))) refl) in
     tidy_added two (pair_of (complement (positive 3)) (complement (positive 4))) tidy_two
     (ordered_tidy (complement (positive 3)) (complement (positive 4)) 5 (omega arith) (omega arith)
-    (never_folds (complement (positive 3)) (complement (positive 4)) refl)) (absent_from_any two (pair_of (complement (positive 3)) (complement (positive 4))) refl)
+    (never_folds (complement (positive 3)) (complement (positive 4)) refl)) (missing_from_any two.pairs (pair_of (complement (positive 3)) (complement (positive 4))) refl)
 
 pub tidy_is_judged : TidyIsJudged
 tidy_is_judged = record {

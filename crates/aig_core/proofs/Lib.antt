@@ -6,6 +6,7 @@ pub mod HalfAdder
 pub mod NodeBits
 pub mod NodeLemmas
 pub mod NodePlaces
+pub mod PairLemmas
 pub mod PlaceLemmas
 pub mod TidyLemmas
 pub mod ValueLemmas

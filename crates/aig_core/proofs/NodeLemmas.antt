@@ -9,7 +9,7 @@ use Rattle.pulse_ids.specs.Ids.{NodeLit, numbered}
 use Rattle.aig_core.specs.Folds.{positive}
 use Rattle.aig_core.specs.declared.pairs.Pair.{Pair}
 use Rattle.aig_core.specs.declared.nodes.Node.{Node}
-use Rattle.aig_core.specs.declared.nodes.Node.TheVariants.{False, Input, Latch}
+use Rattle.aig_core.specs.declared.nodes.Node.TheVariants.{False, Input, Latch, And}
 use Rattle.aig_core.specs.Graphs.{PlainGraph, conjunction, nodes_of, first_conjunction, count_of, with_pair}
 use Rattle.aig_core.proofs.CallerLemmas.{slice_get-left, slice_get-at}
 
@@ -72,11 +72,12 @@ node-input-at graph number k h e = ap (slice_get (nodes_of graph)) e ∙ node-in
 pub node-latch-at : (graph : PlainGraph) (number k : ℕ) → k < graph.latches → number ≡ 1 + graph.inputs + k → slice_get (nodes_of graph) number ≡ Some (Latch k)
 node-latch-at graph number k h e = ap (slice_get (nodes_of graph)) e ∙ node-latch graph k h
 
--- the same by a list that holds the pairs
-pub node-conjunction-read : (graph : PlainGraph) (pairs : List Pair) (k : ℕ) (default : Pair) → pairs ≡ graph.pairs → k < length graph.pairs → slice_get (nodes_of graph)
-    (first_conjunction graph + k) ≡ Some (conjunction (get_or pairs k default))
-node-conjunction-read graph pairs k default same h =
-    node-conjunction graph k (get_or pairs k default) (ap (λ list. slice_get list k) (sym same) ∙ slice_get-get_or pairs k default (subst (λ list. k < length list) (sym same) h))
+-- the same by a list that holds the pairs, and the pair's literals
+pub node-conjunction-read : (graph : PlainGraph) (pairs : List Pair) (k : ℕ) (pair : Pair) (low high : NodeLit) → pairs ≡ graph.pairs → k < length graph.pairs → pair ≡ get_or pairs k pair
+    → low ≡ pair.low → high ≡ pair.high → slice_get (nodes_of graph) (first_conjunction graph + k) ≡ Some (And low high)
+node-conjunction-read graph pairs k pair low high same h is lows highs =
+    node-conjunction graph k pair
+    (ap (λ list. slice_get list k) (sym same) ∙ slice_get-get_or pairs k pair (subst (λ list. k < length list) (sym same) h) ∙ ap Some (sym is)) ∙ (λ i. Some (And (sym lows i) (sym highs i)))
 
 -- a literal by its parts
 pub positive_is : (literal : NodeLit) (number : ℕ) → literal.id.number ≡ number → literal.negated ≡ false → literal ≡ positive number

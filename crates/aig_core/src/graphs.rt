@@ -13,9 +13,9 @@ ghost use Rattle.pulse_ids.specs.Quantities.{greatest_of};
 ghost use Rattle.pulse_ids.specs.declared.quantities.Quantity.TheVariants.{Inputs, Latches, Size};
 
 use crate::folds::folded;
+use crate::kept_pairs::KeptPairs;
 use crate::nodes::Node;
 use crate::pairs::{Pair, ordered};
-use indexmap::IndexSet;
 use pulse_ids::{Ident, NoMemory, NodeId, NodeLit};
 use std::alloc::Global;
 use std::marker::Model;
@@ -27,18 +27,19 @@ use std::marker::Model;
 pub struct Graph {
     inputs: u32,
     latches: u32,
-    pairs: IndexSet<Pair>,
+    pairs: KeptPairs,
 }
 
 impl Model for Graph {
     ghost use Rattle.aig_core.specs.Graphs.{PlainGraph};
+    ghost use Rattle.aig_core.specs.KeptPairs.{pairs_of};
     ghost use Rattle.aig_core.specs.Tidy.{IsKept};
 
     ghost Value = { PlainGraph };
 
-    ghost view = { λ graph. record { inputs = graph.inputs; latches = graph.latches; pairs = graph.pairs.keys } };
+    ghost view = { λ graph. record { inputs = graph.inputs; latches = graph.latches; pairs = pairs_of graph.pairs } };
 
-    ghost invariant = { λ graph. IsKept (record { inputs = graph.inputs; latches = graph.latches; pairs = graph.pairs.keys }) };
+    ghost invariant = { λ graph. IsKept (record { inputs = graph.inputs; latches = graph.latches; pairs = pairs_of graph.pairs }) };
 }
 
 impl Graph {
@@ -53,7 +54,7 @@ impl Graph {
         Graph {
             inputs,
             latches,
-            pairs: IndexSet::new(alloc),
+            pairs: KeptPairs::new(alloc),
         }
     }
 
@@ -131,6 +132,15 @@ impl Graph {
         }
     }
 
+    /// Gives back the memory by which `and` looks pairs up. It takes time linear in the conjunctions,
+    /// and memory for a copy of their pairs until it is done; where that is refused, nothing is given
+    /// back. The next look-up takes the memory again, and linear time once more.
+    pub fn shrink_to_fit(&mut self)
+        ensures { self.new ≡ self.old }
+    {
+        self.pairs.drop_index();
+    }
+
     /// The number of the first conjunction, there or to come.
     fn first_conjunction(&self) -> u32
         ensures number { result ≡ first_conjunction self.now }
@@ -145,7 +155,7 @@ impl Graph {
         ensures { slice_get (nodes_of self.now) (first_conjunction self.now + place) ≡ Some result }
     {
         let pair = self.pairs.as_slice()[place as usize];
-        Node::And(pair.low, pair.high)
+        Node::And(pair.low(), pair.high())
     }
 
     /// The literal of the conjunction at this place among the conjunctions, at most 262,144.
@@ -167,9 +177,7 @@ impl Graph {
         ensures err { OnErr result (self.new ≡ self.old) }
         ensures kept { IsKept self.new }
     {
-        match self.pairs.insert_full(pair) {
-            Ok((place, _)) => Ok(self.conjunction_literal(place as u32)),
-            Err(_) => Err(NoMemory),
-        }
+        let place = self.pairs.place(pair)?;
+        Ok(self.conjunction_literal(place as u32))
     }
 }

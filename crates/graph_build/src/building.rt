@@ -149,10 +149,12 @@ fn graph_of(alloc: Global, raw: &RawMachine) -> Result<Built, NoMemory>
 /// lowest net among those whose cube nets are all built. A cube is folded from the left, beginning
 /// with 1, and the cubes are joined from the left, beginning with 0; the result is complemented where
 /// `on` is false. The graph has at most as many conjunctions as the machine has cubes and literals
-/// in them. It takes memory linear in the machine, and time that is linear but for the choice of the
-/// lowest net, which takes logarithmic time for each equation.
+/// in them, and is shrunk to fit. It takes memory linear in the machine, and time that is linear but
+/// for the choice of the lowest net, which takes logarithmic time for each equation.
 pub fn build(alloc: Global, machine: &Machine) -> Result<Built, NoMemory>
     ensures { IfOk result (λ built. IsGraphOf machine.now built) }
 {
-    graph_of(alloc, machine.raw())
+    let mut built = graph_of(alloc, machine.raw())?;
+    built.graph.shrink_to_fit();
+    Ok(built)
 }

@@ -74,6 +74,27 @@ fn nodes_are_read(rt: HostRuntime) -> Result<(), Fail> {
     Ok(())
 }
 
+#[test]
+fn pairs_are_found_without_their_index(rt: HostRuntime) -> Result<(), Fail> {
+    let mut graph = Graph::new(rt.alloc(), 2, 1);
+    let first = graph.and(literal(2), literal(4))?;
+    let second = graph.and(literal(3), literal(4))?;
+    graph.shrink_to_fit();
+    assert_eq!(rt; graph.len(), 6);
+    assert_eq!(rt;
+        graph.node(second.node()),
+        Node::And(literal(3), literal(4))
+    );
+    assert_eq!(rt; graph.and(literal(4), literal(3))?, second);
+    assert_eq!(rt; graph.and(literal(4), literal(2))?, first);
+    assert_eq!(rt; graph.and(literal(4), literal(6))?, literal(12));
+    graph.shrink_to_fit();
+    graph.shrink_to_fit();
+    assert_eq!(rt; graph.and(literal(6), literal(4))?, literal(12));
+    assert_eq!(rt; graph.len(), 7);
+    Ok(())
+}
+
 /// A machine with the number of nodes of its graph and the codes of its outputs.
 #[derive(Clone, Copy)]
 struct Case<'a> {

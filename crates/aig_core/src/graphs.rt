@@ -134,7 +134,8 @@ impl Graph {
 
     /// Gives back the memory by which `and` looks pairs up. It takes time linear in the conjunctions,
     /// and memory for a copy of their pairs until it is done; where that is refused, nothing is given
-    /// back. The next look-up takes the memory again, and linear time once more.
+    /// back. The next look-up takes the memory again and linear time, and so does each one after it
+    /// that is refused that memory.
     pub fn shrink_to_fit(&mut self)
         ensures { self.new ≡ self.old }
     {

@@ -6,6 +6,7 @@ use Rattle.std.proofs.lemmas.List.Elements.{All-nil, All-cons, All-head, All-tai
 use Rattle.pulse_ids.specs.Quantities.{greatest_of}
 use Rattle.pulse_ids.specs.Names.{IsPortName}
 use Rattle.pulse_ids.specs.declared.quantities.Quantity.TheVariants as quantities
+use Rattle.numbered_names.specs.Names.{number_for}
 use Rattle.word_scan.proofs.CallerLemmasLogical.{IsPlainWord}
 use Rattle.source_machine.specs.Machines.{PlainLiteral, PlainEquation, PlainMachine}
 use Rattle.source_machine.specs.Fitting.{Fits, EquationFits, LiteralFits, IsNumbered, size_of, size_of_cubes}
@@ -13,7 +14,6 @@ use Rattle.source_machine.specs.Additions.{with_nets, with_input, with_output}
 use Rattle.source_machine.proofs.CallerLemmas.{bare_fits, bare_equation_fits, more_cube_fits, size_of_cubes-last, size_of_equations-last, more_nets_fit, more_input_fits, more_output_fits, more_equation_fits}
 use Rattle.blif_reader.specs.declared.refusals.LineRefusal.TheVariants as line_refusals
 use Rattle.blif_reader.specs.declared.refusals.BlifCause.TheVariants as causes
-use Rattle.blif_reader.specs.Names.{number_for}
 use Rattle.blif_reader.specs.Rows.{cares_in, literals_of}
 use Rattle.blif_reader.specs.States.{BlifState, OpenEquation, nothing_read, closed, with_open, with_column}
 use Rattle.blif_reader.specs.Statements.{input_read, output_read, column_read, has_rows, bit_added, with_row}

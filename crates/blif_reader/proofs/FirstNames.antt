@@ -5,7 +5,7 @@ use Rattle.std.specs.Option.{is_some}
 use Rattle.std.specs.Str.{bytes_eq}
 use Rattle.std.proofs.lemmas.List.{append-nil}
 use Rattle.std.proofs.lemmas.Slice.Eq.{bytes_eq-Decides}
-use Rattle.blif_reader.specs.Names.{number_from, number_in, names_with, number_for}
+use Rattle.numbered_names.specs.Names.{number_from, number_in, names_with, number_for}
 use Rattle.blif_reader.specs.Tellings.{firsts, net_of}
 
 -- names, of which each one that isn't there yet joins behind

@@ -6,12 +6,12 @@ use Rattle.std.proofs.lemmas.Bool.{ltb-false}
 use Rattle.pulse_ids.specs.Quantities.{greatest_of}
 use Rattle.pulse_ids.specs.declared.quantities.Quantity.{Quantity}
 use Rattle.pulse_ids.specs.declared.quantities.Quantity.TheVariants as quantities
+use Rattle.numbered_names.specs.Names.{number_from, number_in, names_with, number_for}
+use Rattle.numbered_names.proofs.CallerLemmas.{number_bound}
 use Rattle.blif_reader.specs.declared.refusals.LineRefusal.{LineRefusal}
 use Rattle.blif_reader.specs.declared.refusals.LineRefusal.TheVariants.{Limit}
-use Rattle.blif_reader.specs.Names.{number_from, number_in, names_with, number_for}
 use Rattle.blif_reader.specs.Refusing.{after, over}
 use Rattle.blif_reader.specs.Latches.{net_read}
-use Rattle.blif_reader.proofs.NameNumbers.{number_bound}
 
 -- one of two, by a test
 pub either : {A : Type 0} (Q : Type 0) (b : Bool) (x y : Result A LineRefusal) (value : A) → cond b x y ≡ Ok value → (x ≡ Ok value → Q) → (y ≡ Ok value → Q) → Q

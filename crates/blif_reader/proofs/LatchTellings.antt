@@ -6,6 +6,7 @@ use Rattle.std.specs.Str.{bytes_eq}
 use Rattle.std.proofs.lemmas.List.{append-nil}
 use Rattle.std.proofs.Math.Bool.{or-false}
 use Rattle.pulse_ids.specs.declared.quantities.Quantity.TheVariants as quantities
+use Rattle.numbered_names.specs.Names.{names_with, number_for}
 use Rattle.source_machine.specs.declared.unset.Unset.{Unset}
 use Rattle.source_machine.specs.Unset.{first_bit}
 use Rattle.source_machine.specs.Machines.{PlainLatch}
@@ -13,7 +14,6 @@ use Rattle.source_machine.specs.Additions.{with_latch}
 use Rattle.blif_reader.specs.declared.refusals.LineRefusal.{LineRefusal}
 use Rattle.blif_reader.specs.declared.refusals.LineRefusal.TheVariants as line_refusals
 use Rattle.blif_reader.specs.declared.refusals.BlifCause.TheVariants as causes
-use Rattle.blif_reader.specs.Names.{names_with, number_for}
 use Rattle.blif_reader.specs.States.{BlifState}
 use Rattle.blif_reader.specs.Latches.{net_read, latch_read, latch_added, state_given, untyped_read, typed_read, latch_words_read, is_mixed, with_type, edge_of, first_state, names_clock}
 use Rattle.blif_reader.specs.Tellings.{net_of, latch_told, value_in, bit_given, control_in, ends_of, first_of}

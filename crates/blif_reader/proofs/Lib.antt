@@ -1,7 +1,4 @@
 -- The proofs of the reader of BLIF.
-pub mod Keys
-pub mod NameTables
-pub mod NameNumbers
 pub mod Fails
 pub mod RowMarks
 pub mod Inversions

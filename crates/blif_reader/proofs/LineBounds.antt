@@ -5,6 +5,7 @@ use Rattle.std.specs.Option.{option_or}
 use Rattle.std.specs.Str.{bytes_eq}
 use Rattle.std.proofs.lemmas.Bool.{eqb-true}
 use Rattle.pulse_ids.specs.declared.quantities.Quantity.TheVariants as quantities
+use Rattle.numbered_names.specs.Names.{number_for}
 use Rattle.word_scan.specs.Logical.{dark_words, has_strange}
 use Rattle.word_scan.specs.Reading.{read_on}
 use Rattle.word_scan.proofs.CallerLemmasReading.{read_refused}
@@ -16,7 +17,6 @@ use Rattle.source_machine.proofs.CallerLemmas.{more_latch_fits}
 use Rattle.blif_reader.specs.declared.refusals.LineRefusal.{LineRefusal}
 use Rattle.blif_reader.specs.declared.refusals.LineRefusal.TheVariants as line_refusals
 use Rattle.blif_reader.specs.declared.refusals.BlifCause.TheVariants as causes
-use Rattle.blif_reader.specs.Names.{number_for}
 use Rattle.blif_reader.specs.Rows.{are_marks, bit_of}
 use Rattle.blif_reader.specs.States.{BlifState, OpenEquation, closed}
 use Rattle.blif_reader.specs.Latches.{net_read, latch_read, latch_added, state_given, clock_read, differs_in_clock, untyped_read, typed_read, latch_words_read, is_mixed, with_type, edge_of, first_state}

@@ -6,12 +6,12 @@ use Rattle.std.proofs.lemmas.List.{append-nil}
 use Rattle.std.proofs.lemmas.List.Elements.{All-nil}
 use Rattle.std.proofs.lemmas.Slice.Eq.{bytes_eq-Decides}
 use Rattle.pulse_ids.specs.declared.quantities.Quantity.TheVariants as quantities
+use Rattle.numbered_names.specs.Names.{names_with, number_for}
 use Rattle.source_machine.specs.declared.unset.Unset.{Unset}
 use Rattle.source_machine.specs.Machines.{PlainMachine, PlainEquation, PlainLiteral}
 use Rattle.blif_reader.specs.declared.refusals.LineRefusal.{LineRefusal}
 use Rattle.blif_reader.specs.declared.refusals.LineRefusal.TheVariants as line_refusals
 use Rattle.blif_reader.specs.declared.refusals.BlifCause.TheVariants as causes
-use Rattle.blif_reader.specs.Names.{names_with, number_for}
 use Rattle.blif_reader.specs.Rows.{bit_of}
 use Rattle.blif_reader.specs.States.{BlifState, OpenEquation, closed, with_open, begun_equation}
 use Rattle.blif_reader.specs.Statements.{model_read, column_read, names_read, end_read, is_passed_over, statement_read, has_rows}

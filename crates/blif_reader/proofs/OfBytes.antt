@@ -7,6 +7,7 @@ use Rattle.std.specs.Str.{bytes_eq}
 use Rattle.pulse_ids.specs.Quantities.{greatest_of}
 use Rattle.pulse_ids.specs.declared.quantities.Quantity.{Quantity}
 use Rattle.pulse_ids.specs.declared.quantities.Quantity.TheVariants as quantities
+use Rattle.numbered_names.specs.Names.{number_in}
 use Rattle.word_scan.specs.Logical.{LogicalLine, dark_words, has_strange}
 use Rattle.word_scan.specs.Reading.{read_on, unless_refused}
 use Rattle.source_machine.specs.declared.unset.Unset.{Unset}
@@ -15,7 +16,6 @@ use Rattle.blif_reader.specs.declared.refusals.BlifRefusal.{BlifRefusal}
 use Rattle.blif_reader.specs.declared.refusals.BlifRefusal.TheVariants as refusals
 use Rattle.blif_reader.specs.declared.refusals.LineRefusal.{LineRefusal}
 use Rattle.blif_reader.specs.declared.refusals.LineRefusal.TheVariants as line_refusals
-use Rattle.blif_reader.specs.Names.{number_in}
 use Rattle.blif_reader.specs.Rows.{cares_in, row_words, are_marks, bit_of}
 use Rattle.blif_reader.specs.States.{BlifState, OpenEquation, nothing_read, closed}
 use Rattle.blif_reader.specs.Refusing.{after, over}

@@ -5,13 +5,13 @@ use Rattle.std.proofs.lemmas.List.{append-nil}
 use Rattle.std.proofs.Math.Bool.{or-true, or-false}
 use Rattle.pulse_ids.specs.declared.quantities.Quantity.{Quantity}
 use Rattle.pulse_ids.specs.declared.quantities.Quantity.TheVariants as quantities
+use Rattle.numbered_names.specs.Names.{number_in, names_with, number_for}
 use Rattle.word_scan.specs.Reading.{read_on}
 use Rattle.source_machine.specs.Machines.{PlainLiteral}
 use Rattle.source_machine.specs.Additions.{with_input, with_output}
 use Rattle.blif_reader.specs.declared.refusals.LineRefusal.{LineRefusal}
 use Rattle.blif_reader.specs.declared.refusals.LineRefusal.TheVariants as line_refusals
 use Rattle.blif_reader.specs.declared.refusals.BlifCause.TheVariants as causes
-use Rattle.blif_reader.specs.Names.{number_in, names_with, number_for}
 use Rattle.blif_reader.specs.States.{BlifState, OpenEquation, with_column}
 use Rattle.blif_reader.specs.Latches.{net_read, clock_read, differs_in_clock}
 use Rattle.blif_reader.specs.Statements.{input_read, output_read, column_read}

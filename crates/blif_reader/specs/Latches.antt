@@ -4,13 +4,13 @@ use Rattle.std.specs.Option.{option_or, is_some}
 use Rattle.std.specs.Bool.{beq}
 use Rattle.std.specs.Str.{bytes_eq}
 use Rattle.pulse_ids.specs.declared.quantities.Quantity.TheVariants as quantities
+use Rattle.numbered_names.specs.Names.{number_in, names_with, number_for}
 use Rattle.source_machine.specs.declared.unset.Unset.{Unset}
 use Rattle.source_machine.specs.Unset.{first_bit}
 use Rattle.source_machine.specs.Additions.{with_latch}
 use Rattle.blif_reader.specs.declared.refusals.BlifCause.TheVariants.{BadWord, LatchType, MixedClock, NoFixedInit}
 use Rattle.blif_reader.specs.declared.refusals.LineRefusal.{LineRefusal}
 use Rattle.blif_reader.specs.declared.refusals.LineRefusal.TheVariants.{Cause}
-use Rattle.blif_reader.specs.Names.{number_in, names_with, number_for}
 use Rattle.blif_reader.specs.States.{BlifState}
 use Rattle.blif_reader.specs.declared.latch_kinds.LatchKind.{LatchKind}
 use Rattle.blif_reader.specs.Refusing.{after, over, unless_long}

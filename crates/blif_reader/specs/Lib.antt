@@ -1,6 +1,4 @@
--- The definitions of names, rows, states, statements, and of what a BLIF source says.
-pub mod Names
-pub mod NameTables
+-- The definitions of rows, states, statements, and of what a BLIF source says.
 pub mod Rows
 pub mod States
 pub mod Refusing

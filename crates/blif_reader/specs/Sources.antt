@@ -4,6 +4,7 @@ use Rattle.std.specs.Option.{option_or}
 use Rattle.std.specs.List.{list_any}
 use Rattle.pulse_ids.specs.Quantities.{greatest_of}
 use Rattle.pulse_ids.specs.declared.quantities.Quantity.TheVariants as quantities
+use Rattle.numbered_names.specs.Names.{number_in}
 use Rattle.word_scan.specs.Lines.{whole_lines, last_line}
 use Rattle.word_scan.specs.Logical.{LogicalLine, logical_after, logical_begun}
 use Rattle.source_machine.specs.declared.places.Place.{Place}
@@ -20,7 +21,6 @@ use Rattle.blif_reader.specs.declared.refusals.BlifRefusal.{BlifRefusal}
 use Rattle.blif_reader.specs.declared.refusals.BlifRefusal.TheVariants as refusals
 use Rattle.blif_reader.specs.declared.refusals.LineRefusal.{LineRefusal}
 use Rattle.blif_reader.specs.declared.refusals.LineRefusal.TheVariants as line_refusals
-use Rattle.blif_reader.specs.Names.{number_in}
 use Rattle.blif_reader.specs.States.{BlifState, nothing_read, closed}
 use Rattle.blif_reader.specs.Statements.{text_line_read}
 

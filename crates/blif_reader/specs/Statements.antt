@@ -4,6 +4,7 @@ use Rattle.std.specs.Bool.{beq}
 use Rattle.std.specs.Str.{bytes_eq}
 use Rattle.std.specs.List.{list_any}
 use Rattle.pulse_ids.specs.declared.quantities.Quantity.TheVariants as quantities
+use Rattle.numbered_names.specs.Names.{number_for}
 use Rattle.word_scan.specs.Logical.{dark_words, has_strange}
 use Rattle.word_scan.specs.Reading.{read_on}
 use Rattle.source_machine.specs.declared.unset.Unset.{Unset}
@@ -12,7 +13,6 @@ use Rattle.source_machine.specs.Additions.{with_input, with_output, with_cube}
 use Rattle.blif_reader.specs.declared.refusals.BlifCause.TheVariants.{BadWord, NoModel, SecondModel, AfterEnd, Unsupported, RowShape, MixedCover, StrayRow}
 use Rattle.blif_reader.specs.declared.refusals.LineRefusal.{LineRefusal}
 use Rattle.blif_reader.specs.declared.refusals.LineRefusal.TheVariants.{Cause}
-use Rattle.blif_reader.specs.Names.{number_for}
 use Rattle.blif_reader.specs.Rows.{cares_in, literals_of, bit_of, row_words, are_marks}
 use Rattle.blif_reader.specs.States.{BlifState, OpenEquation, closed, with_column}
 use Rattle.blif_reader.specs.Refusing.{after, over, unless_long}

@@ -2,11 +2,11 @@
 use Rattle.std.specs.Prelude.{◌≡◌, ⊤, ℕ, ◌++◌, ◌==◌, Bool, true, false, not, List, [], ◌∷◌, Option, Some, None, length, map, filter, unwrap_or, codes, slice_index, if◌then◌else◌}
 use Rattle.std.specs.List.{All, flat_map}
 use Rattle.std.specs.Str.{bytes_eq}
+use Rattle.numbered_names.specs.Names.{number_in}
 use Rattle.word_scan.specs.Logical.{LogicalLine, dark_words}
 use Rattle.source_machine.specs.declared.unset.Unset.{Unset}
 use Rattle.source_machine.specs.Unset.{first_bit}
 use Rattle.source_machine.specs.Machines.{PlainLiteral, PlainLatch, PlainEquation, PlainMachine}
-use Rattle.blif_reader.specs.Names.{number_in}
 use Rattle.blif_reader.specs.Rows.{literals_of, bit_of}
 use Rattle.blif_reader.specs.Latches.{names_clock}
 use Rattle.blif_reader.specs.Sources.{PlainSource}

@@ -16,12 +16,12 @@ ghost use Rattle.blif_reader.specs.Bounds.{IsBounded};
 ghost use Rattle.blif_reader.specs.Sources.{limit, line_begun, logical_left, lines_left, lines_closed, NamesNet, lines_read, is_read, is_made, is_input, in_rows, in_cube, is_data, is_derived, clock_cause, PlainSource, source_of, whole_source, judgement, IsVerdictOf, IsMachineCause, IsMachineRefusal};
 ghost use Rattle.blif_reader.specs.Readings.{IsSafe, IsReading, OrMemory, HasAnswered};
 
-use crate::names::Names;
 use crate::pieces::{read_line, read_logical};
 use crate::readings::Reading;
 use crate::refusals::{BlifCause, BlifRefusal, fault_at};
 use crate::states::State;
 use crate::uses::{is_input, is_made, is_read};
+use numbered_names::Names;
 use pulse_ids::{Ident, NoMemory};
 use source_machine::{Grounding, Machine, Place, RawMachine, Unset, ground};
 use std::alloc::Global;

@@ -1,17 +1,17 @@
 //! What the logical lines so far have built.
 
 ghost use Rattle.std.specs.Prelude.{◌≡◌, ◌≤◌, ◌<◌, ◌^◌, ◌+◌, ◌++◌, ◌∷◌, [], Some, None, Ok, Err, OnOk, IfOk, IfErr, length};
-ghost use Rattle.blif_reader.specs.Names.{number_for};
 ghost use Rattle.pulse_ids.specs.Quantities.{greatest_of};
 ghost use Rattle.pulse_ids.specs.declared.quantities.Quantity.TheVariants as quantities;
+ghost use Rattle.numbered_names.specs.Names.{number_for};
 ghost use Rattle.blif_reader.specs.declared.refusals.LineRefusal.TheVariants as refusals;
 ghost use Rattle.blif_reader.specs.Refusing.{FailsBy};
 ghost use Rattle.blif_reader.specs.Latches.{net_read};
 
 use crate::latch_kinds::LatchKind;
-use crate::names::Names;
 use crate::open_equations::OpenEquation;
 use crate::refusals::LineRefusal;
+use numbered_names::Names;
 use pulse_ids::{Ident, Name, NetId, NoMemory, Quantity};
 use source_machine::RawMachine;
 use std::alloc::Global;

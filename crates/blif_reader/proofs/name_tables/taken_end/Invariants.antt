@@ -1,6 +1,0 @@
--- The slots before this one are taken.
-use Rattle.blif_reader.specs.NameTables.{AreTaken}
-use Rattle.blif_reader.proofs.name_tables.taken_end.Given as goal
-
-abbrev pub invariant-loop-at : goal.invariant-loop-at
-invariant-loop-at l = AreTaken l.slots l.start l.at

@@ -1,0 +1,3 @@
+-- The numbers of names, and where they stand.
+pub mod Names
+pub mod NameTables

@@ -1,4 +1,4 @@
-use Rattle.std.proofs.Common.{◌≡◌, ◌∙◌, true, false, Some, slice_get, ap, sym, subst}
+use Rattle.std.proofs.Common.{◌≡◌, true, false, Some, slice_get, sym, subst}
 use Rattle.pulse_world.specs.PackedStates.{PlainStates, packed_states, bit_place, other_port, HasPulsed}
 use Rattle.pulse_world.proofs.PulsedGates.{pulsed, pulsed_bits}
 use Rattle.pulse_world.proofs.states.CellStates.pulse.Goals as goal

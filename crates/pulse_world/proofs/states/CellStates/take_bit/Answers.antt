@@ -1,4 +1,4 @@
-use Rattle.std.proofs.Common.{◌≡◌, ◌∙◌, true, false, Some, slice_get, slice_set, get_or, ap, sym, subst}
+use Rattle.std.proofs.Common.{◌≡◌, ◌∙◌, false, Some, slice_get, slice_set, get_or, ap, sym, subst}
 use Rattle.cell_netlist.specs.declared.kinds.Port.TheVariants.{A}
 use Rattle.pulse_world.specs.PackedStates.{PlainStates, bit_place, droc_with}
 use Rattle.pulse_world.proofs.StateBits.{first-there, set-here}

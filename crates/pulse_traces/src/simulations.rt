@@ -1,11 +1,12 @@
 //! A simulation: all its memory, the writing of its text, and the counts of its pulses.
 
-ghost use Rattle.std.specs.Prelude.{◌≡◌, ◌<◌, ◌≤◌, ◌^◌, List, Bool, IfOk, length, replicate};
+ghost use Rattle.std.specs.Prelude.{◌≡◌, ◌<◌, ◌≤◌, ◌-◌, ◌^◌, List, Bool, IfOk, length, replicate};
 ghost use Rattle.pulse_ids.specs.Ids.{WireId};
 ghost use Rattle.pulse_ids.specs.Lists.{IsIn};
 ghost use Rattle.schedule_replay.specs.Choosing.{AnswersBelow};
 ghost use Rattle.schedule_replay.specs.Orders.{IsBetween};
 ghost use Rattle.pulse_traces.specs.CycleCounts.{CountsSimulation};
+ghost use Rattle.pulse_traces.specs.declared.orders.DeliveryOrder.TheVariants.{First, Last, Mix};
 ghost use Rattle.pulse_traces.specs.Orders.{place_of};
 ghost use Rattle.pulse_traces.specs.Rooms.{HasRooms};
 ghost use Rattle.pulse_traces.specs.Scripts.{WritesReplay, scripted};
@@ -63,6 +64,77 @@ fn write_by<F: Fn(u64, u64) -> u64 + Choose + Drop, K: Sink>(
     write_cycles(order, &mut world, &chooser, vectors, trace, &mut room, out)
 }
 
+/// The same in the order `first`. Each order has a function of its own, so that none is asked for at each delivery.
+fn write_first<K: Sink>(
+    simulation: Simulation<'_>,
+    vectors: &Vectors,
+    trace: bool,
+    out: &mut K,
+) -> Result<(), Failed>
+    requires width { (vector : List Bool) → IsIn vector vectors.now.vectors → length vector ≡ simulation.inputs }
+    ensures { WritesSimulation First trace simulation.entry vectors.now.vectors (K.taken out.old) (K.taken out.new) (K.faults out.old) (K.faults out.new) result }
+{
+    write_by(
+        DeliveryOrder::First,
+        |_step: u64, _count: u64| -> u64
+            ensures { result ≡ 0 }
+        { 0 },
+        simulation,
+        vectors,
+        trace,
+        out,
+    )
+}
+
+/// The same in the order `last`.
+fn write_last<K: Sink>(
+    simulation: Simulation<'_>,
+    vectors: &Vectors,
+    trace: bool,
+    out: &mut K,
+) -> Result<(), Failed>
+    requires width { (vector : List Bool) → IsIn vector vectors.now.vectors → length vector ≡ simulation.inputs }
+    ensures { WritesSimulation Last trace simulation.entry vectors.now.vectors (K.taken out.old) (K.taken out.new) (K.faults out.old) (K.faults out.new) result }
+{
+    write_by(
+        DeliveryOrder::Last,
+        |_step: u64, count: u64| -> u64
+            requires { 1 ≤ count }
+            ensures { result ≡ count - 1 }
+        { count - 1 },
+        simulation,
+        vectors,
+        trace,
+        out,
+    )
+}
+
+/// The same in the order `mix` of a number.
+fn write_mixed<K: Sink>(
+    number: u32,
+    simulation: Simulation<'_>,
+    vectors: &Vectors,
+    trace: bool,
+    out: &mut K,
+) -> Result<(), Failed>
+    requires width { (vector : List Bool) → IsIn vector vectors.now.vectors → length vector ≡ simulation.inputs }
+    ensures { WritesSimulation (Mix number) trace simulation.entry vectors.now.vectors (K.taken out.old) (K.taken out.new) (K.faults out.old) (K.faults out.new) result }
+{
+    write_by(
+        DeliveryOrder::Mix(number),
+        move |step: u64, count: u64| -> u64
+            requires step { step < 2 ^ 63 }
+            requires some { 1 ≤ count }
+            requires few { count ≤ 2 ^ 22 }
+            ensures { result ≡ place_of (Mix number) step count }
+        { DeliveryOrder::Mix(number).place(step, count) },
+        simulation,
+        vectors,
+        trace,
+        out,
+    )
+}
+
 /// Makes the chooser of a function, and counts the pulses of cycles of one vector in its order.
 fn count_by<F: Fn(u64, u64) -> u64 + Choose + Drop>(
     order: DeliveryOrder,
@@ -108,19 +180,11 @@ impl<'a> Simulation<'a> {
         requires width { (vector : List Bool) → IsIn vector vectors.now.vectors → length vector ≡ self.inputs }
         ensures { WritesSimulation order trace self.entry vectors.now.vectors (K.taken out.old) (K.taken out.new) (K.faults out.old) (K.faults out.new) result }
     {
-        write_by(
-            order,
-            move |step: u64, count: u64| -> u64
-                requires step { step < 2 ^ 63 }
-                requires some { 1 ≤ count }
-                requires few { count ≤ 2 ^ 22 }
-                ensures { result ≡ place_of order step count }
-            { order.place(step, count) },
-            self,
-            vectors,
-            trace,
-            out,
-        )
+        match order {
+            DeliveryOrder::First => write_first(self, vectors, trace, out),
+            DeliveryOrder::Last => write_last(self, vectors, trace, out),
+            DeliveryOrder::Mix(number) => write_mixed(number, self, vectors, trace, out),
+        }
     }
 
     /// Makes so many cycles of one vector in an order of deliveries, and counts their pulses. It writes nothing, and

@@ -2,7 +2,7 @@
 use Rattle.std.proofs.Common.{◌≡◌, ◌≢◌, ◌+◌, ◌-◌, ◌≤◌, ◌<◌, ◌⊎◌, ℕ, zero, suc, ◌==◌, Some, List, [], ◌∷◌, ◌++◌, map, length, take, slice_get, slice_set, get_or, ap, sym, ◌∙◌, subst, inl, inr, arith, refl, if◌then◌else◌}
 use Rattle.std.specs.List.{swap_remove, sum_by}
 use Rattle.std.proofs.lemmas.Option.{slice_get_within, slice_get-get_or, get_or_from_slice_get}
-use Rattle.std.proofs.lemmas.List.{take-map, map-set, get_or-map, length-map}
+use Rattle.std.proofs.lemmas.List.{take-map, map-set, get_or-map, length-map, length-append}
 use Rattle.std.proofs.lemmas.List.Sums.{sum_by-cons, sum_by-swap_remove}
 use Rattle.pulse_ids.specs.Ids.{WireId}
 use Rattle.pulse_ids.specs.Lists.{occurrences}
@@ -47,6 +47,29 @@ module _ {X : Type 0} where
   appended-get [] x y (suc p) e = absurd cc
   appended-get (z ∷ xs) x y zero e = inl e
   appended-get (z ∷ xs) x y (suc p) e = elim (appended-get xs x y p e) [ inl old ↦ inl old | inr new ↦ inr (ap (λ n. suc n) new.0, new.1) ]
+
+  -- an item put in a list with one more at its end, which is left out then
+  take-all : (xs : List X) (y : X) → take (length xs) (xs ++ y ∷ []) ≡ xs
+  take-all [] y = refl
+  take-all (x ∷ xs) y = ap (λ ys. x ∷ ys) (take-all xs y)
+
+  take-set : (xs : List X) (y z : X) (place : ℕ) → take (length xs) (slice_set (xs ++ y ∷ []) place z) ≡ slice_set xs place z
+  take-set [] y z zero = refl
+  take-set [] y z (suc place) = refl
+  take-set (x ∷ xs) y z zero = ap (λ ys. z ∷ ys) (take-all xs y)
+  take-set (x ∷ xs) y z (suc place) = ap (λ ys. x ∷ ys) (take-set xs y z place)
+
+  last-of : (xs : List X) (y d : X) → get_or (xs ++ y ∷ []) (length xs) d ≡ y
+  last-of [] y d = refl
+  last-of (x ∷ xs) y d = last-of xs y d
+
+  -- where the last item is taken and put in a place of the rest
+  pub put-last : (all xs : List X) (last : X) (place : ℕ) → all ≡ xs ++ last ∷ [] → slice_set xs place last ≡ swap_remove all place last
+  put-last all xs last place e =
+      let one : length (xs ++ last ∷ []) - 1 ≡ length xs = omega (arith, length-append xs (last ∷ [])) in
+      sym (ap (λ ys. swap_remove ys place last) e
+      ∙ (ap (λ n. take n (slice_set (xs ++ last ∷ []) place (get_or (xs ++ last ∷ []) n last))) one
+      ∙ (ap (λ y. take (length xs) (slice_set (xs ++ last ∷ []) place y)) (last-of xs last last) ∙ take-set xs last last place)))
 
 -- the numbers of a queue from which the item of a place was taken
 pub removed-numbers : (xs : List WireId) (place : ℕ) (d : WireId) → place < length xs
@@ -150,3 +173,9 @@ number-at wires place wire inside e =
     let count = length-map wires number_in in
     slice_get-get_or (map number_in wires) place 0 (omega arith)
     ∙ ap (λ n. Some n) (get_or-map number_in wires place wire 0 inside ∙ ap number_in (sym e))
+
+pub number-there : (wires : List WireId) (place : ℕ) (wire : WireId) → slice_get wires place ≡ Some wire → slice_get (map number_in wires) place ≡ Some wire.number
+number-there [] zero wire e = absurd cc
+number-there [] (suc place) wire e = absurd cc
+number-there (x ∷ wires) zero wire e = let same : x ≡ wire = cc in ap (λ w. Some (number_in w)) same
+number-there (x ∷ wires) (suc place) wire e = number-there wires place wire e

@@ -1,7 +1,8 @@
 //! The queue of the pending pulses.
 
-ghost use Rattle.std.specs.Prelude.{◌≡◌, ◌<◌, ◌≤◌, ◌↔◌, ◌++◌, ◌∷◌, [], true, false, None, Some, length, IfOk, IfSome, slice_get, slice_set};
+ghost use Rattle.std.specs.Prelude.{◌≡◌, ◌<◌, ◌≤◌, ◌↔◌, ◌++◌, ◌-◌, ◌∷◌, [], true, false, None, Some, length, IfOk, IfSome, slice_get, slice_set};
 ghost use Rattle.std.specs.List.{swap_remove};
+ghost use Rattle.std.specs.Vec.{vec_capacity};
 ghost use Rattle.pulse_ids.specs.Lists.{IsIn, occurrences};
 ghost use Rattle.pulse_world.specs.PendingQueues.{queue_of};
 
@@ -83,19 +84,20 @@ impl PendingQueue {
     }
 
     /// Takes the wire at a place out; the last one of the queue moves into that place.
+    #[inline(always)]
     pub(crate) fn take_at(&mut self, place: u32) -> WireId
         requires { place < length self.old.wires }
         ensures wire { slice_get self.old.wires place ≡ Some result.number }
         ensures rest { self.new ≡ record self.old { wires = swap_remove self.old.wires place 0 } }
     {
-        let last = self.wires[self.wires.len() - 1];
-        let wire = self.wires.swap_remove(place as usize);
+        let (wire, last) = swapped_out(&mut self.wires, place);
         self.places.set(last, place);
         unmark(&mut self.pending, wire);
         wire
     }
 
     /// Puts a wire at the end. It is below the bound and does not stand in the queue.
+    #[inline(always)]
     pub(crate) fn append(&mut self, wire: WireId)
         requires below { wire.number < self.old.bound }
         requires apart { occurrences wire.number self.old.wires ≡ 0 }
@@ -108,7 +110,27 @@ impl PendingQueue {
     }
 }
 
+// Takes the wire at a place out, and moves the last one into that place. It answers the one that was taken and the one
+// that was last, of which each is read once.
+#[inline(always)]
+fn swapped_out(wires: &mut Vec<WireId>, place: u32) -> (WireId, WireId)
+    requires { place < length wires.old.items }
+    ensures wire { slice_get wires.old.items place ≡ Some result.0 }
+    ensures last { slice_get wires.old.items (length wires.old.items - 1) ≡ Some result.1 }
+    ensures rest { wires.new.items ≡ swap_remove wires.old.items place result.1 }
+    ensures room { vec_capacity wires.new ≡ vec_capacity wires.old }
+{
+    let last = wires.take_last();
+    if place as usize == wires.len() {
+        return (last, last);
+    }
+    let wire = wires[place as usize];
+    wires[place as usize] = last;
+    (wire, last)
+}
+
 // Sets the bit of a wire below their number to 0.
+#[inline(always)]
 fn unmark(marks: &mut Bits<WireId>, wire: WireId)
     requires { wire.number < length marks.old }
     ensures { marks.new ≡ slice_set marks.old wire.number false }

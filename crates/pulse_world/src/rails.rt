@@ -39,6 +39,7 @@ impl RailCounts {
     }
 
     /// Counts a pulse on the rail with this number, which had none yet.
+    #[inline(always)]
     pub(crate) fn count(&mut self, id: RailId)
         requires { slice_get self.old id.number ≡ Some 0 }
         ensures { self.new ≡ slice_set self.old id.number (slice_index self.old id.number + 1) }
@@ -47,6 +48,7 @@ impl RailCounts {
     }
 
     /// Sets all counts to 0.
+    #[inline(always)]
     pub(crate) fn clear(&mut self)
         ensures { self.new ≡ replicate (length self.old) 0 }
     {
@@ -55,6 +57,7 @@ impl RailCounts {
 }
 
 // Sets all bits to 0.
+#[inline(always)]
 fn clear_bits(bits: &mut Bits<RailId>)
     ensures { bits.new ≡ replicate (length bits.old) false }
 {

@@ -28,6 +28,7 @@ pub(crate) enum Target {
 }
 
 /// The cell or the output rail of a reader.
+#[inline(always)]
 pub(crate) fn target_of(reader: Reader) -> Target
     ensures { result ≡ target_at reader }
 {
@@ -39,6 +40,7 @@ pub(crate) fn target_of(reader: Reader) -> Target
 
 /// Lets a cell react to a pulse on its port, for which the cell's table has an entry, and answers what it emits. A
 /// splitter keeps nothing, and the feed of a DROC sets its bit: neither asks for what the cell kept.
+#[inline(always)]
 pub(crate) fn react_at(cell_states: &mut CellStates<'_>, id: CellId, reader: Reader) -> Emitted
     requires { Reacts cell_states.old id.number reader }
     ensures { HasReacted cell_states.old cell_states.new id.number reader result }
@@ -56,6 +58,7 @@ pub(crate) fn react_at(cell_states: &mut CellStates<'_>, id: CellId, reader: Rea
 }
 
 // Emits on both outputs of a splitter.
+#[inline(always)]
 fn split_at(cell_states: &CellStates<'_>, id: CellId) -> Emitted
     requires { Reacts cell_states.now id.number (From id) }
     ensures { HasReacted cell_states.now cell_states.now id.number (From id) result }
@@ -67,6 +70,7 @@ fn split_at(cell_states: &CellStates<'_>, id: CellId) -> Emitted
 }
 
 // Lets an LA or FA react to a pulse on a port.
+#[inline(always)]
 fn react_gate_at(cell_states: &mut CellStates<'_>, id: CellId, port: Port) -> Emitted
     requires { Reacts cell_states.old id.number (port_of port id) }
     ensures { HasReacted cell_states.old cell_states.new id.number (port_of port id) result }
@@ -79,6 +83,7 @@ fn react_gate_at(cell_states: &mut CellStates<'_>, id: CellId, port: Port) -> Em
 }
 
 // The same by which gate it is, and its output.
+#[inline(always)]
 fn pulse_gate(
     cell_states: &mut CellStates<'_>,
     id: CellId,
@@ -99,6 +104,7 @@ fn pulse_gate(
 }
 
 // Whether a gate emits at a pulse on a port, by whether it held one of the other port.
+#[inline(always)]
 fn emits(gate: Gate, met: bool) -> bool
     ensures { (port : Port) → arrival gate (if met then held_of (other_port port) else Rest) port ≡ Some (if met then Rest else held_of port, result) }
 {

@@ -3,7 +3,7 @@
 ghost use Rattle.std.specs.Prelude.{◌≡◌, ◌<◌, ◌^◌, Some, map, length, IfOk, slice_get, slice_set, if◌then◌else◌};
 ghost use Rattle.cell_netlist.specs.declared.kinds.CellState.{CellState};
 ghost use Rattle.cell_netlist.specs.declared.lines.Cell.{Cell};
-ghost use Rattle.cell_netlist.specs.World.{preloaded};
+ghost use Rattle.cell_netlist.specs.World.{cleared, preloaded};
 ghost use Rattle.pulse_world.specs.PackedStates.{held_by, state_by, bit_place, other_port, nothing_kept, AreStatesOf, IsDrocAt, IsFreeAt, HasPulsed, drocs_from};
 
 use crate::drocs::drocs_of;
@@ -21,7 +21,7 @@ struct StateBit;
 /// one. After `new` no call takes memory.
 #[derive(Debug, Drop)]
 pub(crate) struct CellStates<'a> {
-    cells: &'a Row<CellId, Cell>,
+    cells: &'a [Cell],
     // The DROCs, by rising numbers.
     drocs: Vec<CellId>,
     bits: Bits<Id<StateBit>>,
@@ -59,7 +59,11 @@ impl<'a> CellStates<'a> {
     {
         let drocs = drocs_of(alloc, cells)?;
         let bits = Bits::filled(alloc, 2 * cells.len())?;
-        Ok(CellStates { cells, drocs, bits })
+        Ok(CellStates {
+            cells: cells.items(),
+            drocs,
+            bits,
+        })
     }
 
     /// How many cells there are.
@@ -67,10 +71,11 @@ impl<'a> CellStates<'a> {
         ensures cells { result ≡ length self.now.cells }
         ensures states { result ≡ length self.now.states }
     {
-        self.cells.len()
+        self.cells.len() as u32
     }
 
     /// How many cells are DROCs.
+    #[inline(always)]
     pub(crate) fn drocs(&self) -> usize
         ensures count { result ≡ length (drocs_from 0 self.now.cells) }
         ensures fit { AreStatesOf self.now }
@@ -79,6 +84,7 @@ impl<'a> CellStates<'a> {
     }
 
     /// The number of a DROC, by its place among the DROCs.
+    #[inline(always)]
     pub(crate) fn droc(&self, place: usize) -> CellId
         requires { place < length (drocs_from 0 self.now.cells) }
         ensures { slice_get (drocs_from 0 self.now.cells) place ≡ Some result.number }
@@ -92,31 +98,39 @@ impl<'a> CellStates<'a> {
         ensures cell { slice_get self.now.cells id.number ≡ Some result.0 }
         ensures state { slice_get self.now.states id.number ≡ Some result.1 }
     {
-        let cell = *self.cells.get(id);
+        let cell = self.cell(id);
         let first = self.bits.get(bit_of(id, Port::A));
         let second = self.bits.get(bit_of(id, Port::B));
         (cell, unpacked(cell, first, second))
     }
 
     /// The cell with this number, which is below the length.
+    #[inline(always)]
     pub(crate) fn cell(&self, id: CellId) -> Cell
         requires { id.number < length self.now.cells }
         ensures { slice_get self.now.cells id.number ≡ Some result }
     {
-        *self.cells.get(id)
+        self.cells[id.number() as usize]
     }
 }
 
 impl<'a> CellStates<'a> {
-    /// The bit of the cell with this number, which is a DROC.
-    pub(crate) fn bit(&self, id: CellId) -> bool
-        requires { IsDrocAt self.now id.number }
-        ensures { (state : CellState) × (slice_get self.now.states id.number ≡ Some state) × (result ≡ state.bit) }
+    /// The bit of the cell with this number, which is a DROC. It is 0 then, and all other cells keep theirs.
+    #[inline(always)]
+    pub(crate) fn take_bit(&mut self, id: CellId) -> bool
+        requires { IsDrocAt self.old id.number }
+        ensures { (before : CellState) × (slice_get self.old.states id.number ≡ Some before) × (result ≡ before.bit)
+            × (self.new ≡ record self.old { states = slice_set self.old.states id.number (cleared before) }) }
     {
-        self.bits.get(bit_of(id, Port::A))
+        let bit = self.bits.get(bit_of(id, Port::A));
+        if bit {
+            self.bits.set(bit_of(id, Port::A), false);
+        }
+        bit
     }
 
     /// Sets the bit of the cell with this number, which is a DROC. All other cells keep theirs.
+    #[inline(always)]
     pub(crate) fn set_bit(&mut self, id: CellId, bit: bool)
         requires { IsDrocAt self.old id.number }
         ensures { (before : CellState) × (slice_get self.old.states id.number ≡ Some before)
@@ -127,17 +141,23 @@ impl<'a> CellStates<'a> {
 
     /// Takes in a pulse on a port of the cell with this number, which is an LA or FA that holds none of this port. It
     /// answers whether the cell held one of the other port: it rests then, and else it holds this one.
+    #[inline(always)]
     pub(crate) fn pulse(&mut self, id: CellId, port: Port) -> bool
         requires { IsFreeAt self.old id.number port }
         ensures { HasPulsed self.old self.new id.number port result }
     {
         let met = self.bits.get(bit_of(id, other(port)));
-        self.bits.set(bit_of(id, changed(port, met)), !met);
+        if met {
+            self.bits.set(bit_of(id, other(port)), false);
+        } else {
+            self.bits.set(bit_of(id, port), true);
+        }
         met
     }
 }
 
 // The bit of a cell for a port, or a DROC's for port a.
+#[inline(always)]
 fn bit_of(id: CellId, port: Port) -> Id<StateBit>
     requires { id.number < 2 ^ 31 }
     ensures { result.number ≡ bit_place id.number port }
@@ -150,6 +170,7 @@ fn bit_of(id: CellId, port: Port) -> Id<StateBit>
 }
 
 // The other port of a gate.
+#[inline(always)]
 fn other(port: Port) -> Port
     ensures { result ≡ other_port port }
 {
@@ -157,13 +178,6 @@ fn other(port: Port) -> Port
         Port::A => Port::B,
         Port::B => Port::A,
     }
-}
-
-// The port whose bit changes at a pulse on a port, by whether a pulse of the other port is held.
-fn changed(port: Port, met: bool) -> Port
-    ensures { result ≡ (if met then other_port port else port) }
-{
-    if met { other(port) } else { port }
 }
 
 // Lets each cell, of which none keeps anything yet, keep what it does at the start.

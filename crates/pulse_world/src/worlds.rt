@@ -17,6 +17,7 @@ use crate::rails::RailCounts;
 use crate::reacting::{Target, react_at, target_of};
 use crate::states::CellStates;
 use cell_netlist::{CellState, Held, Phase, SoundNet, readers_of_wires};
+use core::mem::replace_with;
 use pulse_ids::{CellId, Ident, NoMemory, RailId, WireId};
 use std::alloc::Global;
 use std::marker::Model;
@@ -93,17 +94,7 @@ impl<'a> World<'a> {
         requires width { length inputs.now ≡ self.old.net.inputs }
         ensures { self.new ≡ opened_world Excite inputs.now self.old }
     {
-        readers_of_wires();
-        self.vector.copy_from_slice(inputs);
-        self.opened = Some(Phase::Excite);
-        open_phase(
-            Phase::Excite,
-            inputs,
-            self.net.net(),
-            &mut self.cell_states,
-            &mut self.pending,
-            &mut self.counted,
-        );
+        replace_with(self, inputs, excited);
     }
 
     /// Opens relax of the cycle, with the vector of its excite. The phase is excite, and nothing is pending. The
@@ -113,16 +104,7 @@ impl<'a> World<'a> {
         requires settled { self.old.queue ≡ [] }
         ensures { self.new ≡ opened_world Relax self.old.vector self.old }
     {
-        readers_of_wires();
-        self.opened = Some(Phase::Relax);
-        open_phase(
-            Phase::Relax,
-            relax_vector(&self.vector),
-            self.net.net(),
-            &mut self.cell_states,
-            &mut self.pending,
-            &mut self.counted,
-        );
+        replace_with(self, (), relaxed);
     }
 
     /// How many pulses are pending, which is at most the number of wires.
@@ -148,6 +130,7 @@ impl<'a> World<'a> {
     /// Delivers the pending pulse at a place of the queue, which is below their number, and answers its wire. The last
     /// wire of the queue moves into its place, and the wires on which the reader emits come last. It takes constant
     /// time.
+    #[inline(always)]
     pub fn deliver_at(&mut self, place: u32) -> WireId
         requires { place < length self.old.queue }
         ensures { DeliversAt self.old self.new place result.number }
@@ -209,6 +192,70 @@ impl<'a> World<'a> {
     {
         do_rest(&self.cell_states)
     }
+}
+
+impl<'a> World<'a> {
+    // The same as `begin_excite`, in place.
+    #[inline(always)]
+    fn open_excite(&mut self, inputs: &[bool])
+        requires phase { phase_of self.old.opened ≡ Relax }
+        requires settled { self.old.queue ≡ [] }
+        requires width { length inputs.now ≡ self.old.net.inputs }
+        ensures { self.new ≡ opened_world Excite inputs.now self.old }
+    {
+        readers_of_wires();
+        self.vector.copy_from_slice(inputs);
+        self.opened = Some(Phase::Excite);
+        open_phase(
+            Phase::Excite,
+            inputs,
+            self.net.net(),
+            &mut self.cell_states,
+            &mut self.pending,
+            &mut self.counted,
+        );
+    }
+
+    // The same as `begin_relax`, in place.
+    #[inline(always)]
+    fn open_relax(&mut self)
+        requires phase { phase_of self.old.opened ≡ Excite }
+        requires settled { self.old.queue ≡ [] }
+        ensures { self.new ≡ opened_world Relax self.old.vector self.old }
+    {
+        readers_of_wires();
+        self.opened = Some(Phase::Relax);
+        open_phase(
+            Phase::Relax,
+            relax_vector(&self.vector),
+            self.net.net(),
+            &mut self.cell_states,
+            &mut self.pending,
+            &mut self.counted,
+        );
+    }
+}
+
+// A world whose next excite is opened with its vector. It is owned meanwhile, so that its parts need not be looked for
+// at each cell.
+fn excited<'a>(mut world: World<'a>, inputs: &[bool]) -> (World<'a>, ())
+    requires phase { phase_of world.opened ≡ Relax }
+    requires settled { world.queue ≡ [] }
+    requires width { length inputs.now ≡ world.net.inputs }
+    ensures { result.0 ≡ opened_world Excite inputs.now world.entry }
+{
+    world.open_excite(inputs);
+    (world, ())
+}
+
+// A world whose relax is opened. It is owned meanwhile.
+fn relaxed<'a>(mut world: World<'a>, _nothing: ()) -> (World<'a>, ())
+    requires phase { phase_of world.opened ≡ Excite }
+    requires settled { world.queue ≡ [] }
+    ensures { result.0 ≡ opened_world Relax world.entry.vector world.entry }
+{
+    world.open_relax();
+    (world, ())
 }
 
 // The vector of relax is the one of its cycle's excite.

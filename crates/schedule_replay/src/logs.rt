@@ -8,6 +8,7 @@ use cell_netlist::SoundNet;
 use pulse_ids::{NoMemory, WireId};
 use std::alloc::Global;
 use std::marker::Model;
+use std::mem::replace;
 
 /// The wires of deliveries in order, with room for as many as a netlist has wires. After `new` no call takes memory.
 #[derive(Debug, Drop)]
@@ -66,6 +67,18 @@ impl Log {
         ensures { map wire_number result.now ≡ self.now.wires }
     {
         self.wires.as_slice()
+    }
+
+    /// Takes the log out. One without room, which takes no memory, stays.
+    pub(crate) fn taken(&mut self) -> Log
+        ensures { result ≡ self.old }
+    {
+        let alloc = *self.wires.allocator();
+        let empty = Log {
+            wires: Vec::new(alloc),
+            room: 0,
+        };
+        replace(self, empty)
     }
 
     /// Empties the log.

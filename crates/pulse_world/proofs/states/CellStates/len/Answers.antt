@@ -6,4 +6,4 @@ use Rattle.pulse_world.proofs.states.CellStates.len.Goals as goal
 pub returns-clause-states : goal.returns-clause-states
 returns-clause-states c =
     let inside = c.self.inside in
-    c.len.ensures ∙ (sym (states-length inside.cells.now inside.bits c.self.invariant.0.two_each) ∙ ap (λ (kept : PlainStates). length kept.states) c.self.view_is)
+    sym (states-length inside.cells.now inside.bits c.self.invariant.0.two_each) ∙ ap (λ (kept : PlainStates). length kept.states) c.self.view_is

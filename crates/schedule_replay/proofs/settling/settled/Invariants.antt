@@ -2,7 +2,7 @@ use Rattle.std.proofs.Common.{◌≡◌, ◌-◌, length}
 use Rattle.cell_netlist.specs.Netlists.{number_of_wires}
 use Rattle.pulse_world.specs.Worlds.{IsWorld}
 use Rattle.schedule_replay.specs.Settling.{DeliversInTurn}
-use Rattle.schedule_replay.proofs.settling.settle.Given as goal
+use Rattle.schedule_replay.proofs.settling.settled.Given as goal
 
 abbrev pub invariant-loop-world : goal.invariant-loop-world
 invariant-loop-world g l = record {

@@ -1,9 +1,10 @@
 pub mod Refusing
 pub mod WireCounts
 pub mod RailRules
+pub mod TableSteps
+pub mod DriverTable
 pub mod CellNeeds
 pub mod LooseCells
-pub mod TableSteps
 pub mod LinkTables
 pub mod RootTable
 pub mod RoleTests

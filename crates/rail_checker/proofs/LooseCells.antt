@@ -1,7 +1,7 @@
 -- Cells with an output that isn't grounded.
 use Rattle.std.proofs.Common.{◌≡◌, ℕ, inl, inr, List, get_or, Option, Some, slice_get, Bool, true, false, not, ◌&&◌, refl, ap, subst, ◌∙◌}
 use Rattle.std.proofs.lemmas.Bool.{cases_Bool}
-use Rattle.pulse_ids.specs.Ids.{numbered}
+use Rattle.pulse_ids.specs.Ids.{CellId, numbered}
 use Rattle.pulse_ids.specs.Lists.{IsIn}
 use Rattle.cell_netlist.specs.declared.lines.Cell.{Cell}
 use Rattle.cell_netlist.specs.declared.lines.Cell.TheVariants.{La, Fa, Split, Droc}
@@ -9,6 +9,7 @@ use Rattle.cell_netlist.specs.declared.unsound.Unsound.TheVariants.{Loop}
 use Rattle.cell_netlist.specs.Netlists.{PlainNetlist, outs, IsDroc, Grounded}
 use Rattle.cell_netlist.specs.Sound.{Breaks}
 use Rattle.dependency_order.specs.Orders.{PlainOrder, IsOrderOf}
+use Rattle.rail_checker.specs.DrivingCells.{HoldsDrivers}
 use Rattle.rail_checker.specs.Needs.{dependencies_of, is_loose_in}
 use Rattle.rail_checker.specs.Verdicts.{IsFirst, PassesAt}
 use Rattle.rail_checker.proofs.CellNeeds.{grounded_of, reached_of}
@@ -32,14 +33,14 @@ right_of_two true true e = absurd cc
 right_of_two true false e = refl
 right_of_two false q e = refl
 
-module _ (net : PlainNetlist) (order : PlainOrder) (h : IsOrderOf (dependencies_of net) order) where
+module _ (net : PlainNetlist) (drivers : List CellId) (holds : HoldsDrivers net drivers) (order : PlainOrder) (h : IsOrderOf (dependencies_of net drivers) order) where
   -- a known wire is grounded
   pub known_grounded : (wire : ℕ) → get_or order.known wire false ≡ true → Grounded net wire
-  known_grounded wire k = grounded_of net wire ((h.known wire).0 k)
+  known_grounded wire k = grounded_of net drivers holds wire ((h.known wire).0 k)
 
   -- a wire that isn't known isn't grounded
   pub unknown_loose : (wire : ℕ) → get_or order.known wire false ≡ false → Grounded net wire → ⊥
-  unknown_loose wire u g = let k : get_or order.known wire false ≡ true = (h.known wire).1 (reached_of net wire g) in cc
+  unknown_loose wire u g = let k : get_or order.known wire false ≡ true = (h.known wire).1 (reached_of net drivers holds wire g) in cc
 
   unknown : (wire : ℕ) → (Grounded net wire → ⊥) → get_or order.known wire false ≡ false
   unknown wire out = elim (cases_Bool (get_or order.known wire false)) [ inl k ↦ absurd (out (known_grounded wire k)) | inr u ↦ u ]

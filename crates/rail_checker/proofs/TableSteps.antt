@@ -18,15 +18,15 @@ pub at_width : {V : Type 0} (table : List V) (place : Option ℕ) (value : V) �
 at_width table None value = refl
 at_width table (Some place) value = length-set table place value
 
-at_place : {V : Type 0} (table : List V) (place : Option ℕ) (value d : V) (w : ℕ) → place ≡ Some w → w < length table → get_or (with_at table place value) w d ≡ value
+pub at_place : {V : Type 0} (table : List V) (place : Option ℕ) (value d : V) (w : ℕ) → place ≡ Some w → w < length table → get_or (with_at table place value) w d ≡ value
 at_place table None value d w e lt = absurd cc
 at_place table (Some place) value d w e lt = let same : place ≡ w = cc in rw same (get_or-set_same table w value d lt)
 
-off_place : {V : Type 0} (table : List V) (place : Option ℕ) (value d : V) (w : ℕ) → (place ≡ Some w → ⊥) → get_or (with_at table place value) w d ≡ get_or table w d
+pub off_place : {V : Type 0} (table : List V) (place : Option ℕ) (value d : V) (w : ℕ) → (place ≡ Some w → ⊥) → get_or (with_at table place value) w d ≡ get_or table w d
 off_place table None value d w ne = refl
 off_place table (Some place) value d w ne = get_or-set_other table place w value d (λ e. ne (ap Some (sym e)))
 
-place_or_not : (place : Option ℕ) (w : ℕ) → (place ≡ Some w) ⊎ (place ≡ Some w → ⊥)
+pub place_or_not : (place : Option ℕ) (w : ℕ) → (place ≡ Some w) ⊎ (place ≡ Some w → ⊥)
 place_or_not None w = inr (λ e. cc)
 place_or_not (Some place) w = elim (cases_eq place w) [ inl e ↦ inl (ap Some e) | inr ne ↦ inr (λ e. let same : place ≡ w = cc in ne same) ]
 

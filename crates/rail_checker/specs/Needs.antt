@@ -1,9 +1,11 @@
--- A netlist as items that need and yield wires: its cells.
+-- A netlist as items that need and yield wires: the cells that drive wires.
 use Rattle.std.specs.Prelude.{ℕ, Bool, false, not, ◌&&◌, List, [], ◌∷◌, map, get_or}
+use Rattle.pulse_ids.specs.Ids.{CellId}
 use Rattle.cell_netlist.specs.declared.lines.Cell.{Cell}
 use Rattle.cell_netlist.specs.declared.lines.Cell.TheVariants.{La, Fa, Split, Droc}
 use Rattle.cell_netlist.specs.Netlists.{PlainNetlist, wire_of, number_of_wires, outs}
 use Rattle.dependency_order.specs.Dependencies.{PlainDependencies}
+use Rattle.rail_checker.specs.DrivingCells.{cells_of}
 
 -- the wires that are to be grounded before the cell's outputs are
 abbrev pub needs_of_cell : Cell → List ℕ
@@ -12,13 +14,13 @@ needs_of_cell (Fa a b out) = a.number ∷ b.number ∷ []
 needs_of_cell (Split from left right) = from.number ∷ []
 needs_of_cell (Droc role preload feed q n) = []
 
--- the wires of input rails are grounded from the start, and each cell yields its outputs
-abbrev pub dependencies_of : PlainNetlist → PlainDependencies
-dependencies_of net = record {
+-- the wires of input rails are grounded from the start, and each of these cells yields its outputs
+abbrev pub dependencies_of : PlainNetlist → List CellId → PlainDependencies
+dependencies_of net drivers = record {
   count = number_of_wires net;
   starts = map wire_of net.input_rails;
-  needs = map needs_of_cell net.cells;
-  yields = map outs net.cells;
+  needs = map needs_of_cell (cells_of net drivers);
+  yields = map outs (cells_of net drivers);
 }
 
 -- the cell is an LA, FA or splitter with an output that isn't known

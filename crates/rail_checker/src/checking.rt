@@ -6,6 +6,7 @@ ghost use Rattle.rail_checker.specs.Verdicts.{IsVerdict, IsJudged, IsClear};
 ghost use Rattle.rail_checker.specs.Refused.{IsRefused};
 
 use crate::counting::wires_unsound;
+use crate::driving_cells::driving_cells;
 use crate::grounding::{grounding, loop_at};
 use crate::rails::rails_unsound;
 use crate::roles::roles_unsound;
@@ -67,9 +68,10 @@ fn cells_unsound(alloc: Global, net: &Netlist) -> Result<Option<Unsound>, NoMemo
     requires { IsClear net.now 7 }
     ensures { IfOk result (λ found. IsJudged net.now 10 found) }
 {
-    let order = grounding(alloc, net)?;
-    if let Some(unsound) = loop_at(net, &order) {
+    let drivers = driving_cells(alloc, net)?;
+    let order = grounding(alloc, net, drivers.as_slice())?;
+    if let Some(unsound) = loop_at(net, drivers.as_slice(), &order) {
         return Ok(Some(unsound));
     }
-    roles_unsound(alloc, net, &order)
+    roles_unsound(alloc, net, drivers.as_slice(), &order)
 }

@@ -6,6 +6,7 @@ ghost use Rattle.cell_netlist.specs.declared.lines.Cell.{Cell};
 ghost use Rattle.cell_netlist.specs.Netlists.{wire_of, used, outs};
 ghost use Rattle.dependency_order.specs.Dependencies.{first_items};
 ghost use Rattle.dependency_order.specs.Orders.{IsOrderOf};
+ghost use Rattle.rail_checker.specs.DrivingCells.{HoldsDrivers};
 ghost use Rattle.rail_checker.specs.Needs.{needs_of_cell, dependencies_of, is_loose_in};
 ghost use Rattle.rail_checker.specs.Verdicts.{IsFirst, PassesAt, IsJudged, IsClear};
 
@@ -14,18 +15,21 @@ use dependency_order::{Dependencies, Order, Totals, arrival_order};
 use pulse_ids::{CellId, Ident, NoMemory, RailId, Row, WireId};
 use std::alloc::Global;
 
-/// The cells in an order in which each comes after those that ground its inputs, and the grounded wires.
-pub(crate) fn grounding(alloc: Global, net: &Netlist) -> Result<Order, NoMemory>
-    ensures { IfOk result (λ order. IsOrderOf (dependencies_of net.now) order) }
+/// The places of the driving cells in an order in which each cell comes after those that ground its inputs, and the
+/// grounded wires.
+pub(crate) fn grounding(alloc: Global, net: &Netlist, drivers: &[CellId]) -> Result<Order, NoMemory>
+    requires { HoldsDrivers net.now drivers.now }
+    ensures { IfOk result (λ order. IsOrderOf (dependencies_of net.now drivers.now) order) }
 {
-    let dependencies = dependencies(alloc, net)?;
+    let dependencies = dependencies(alloc, net, drivers)?;
     Ok(arrival_order(alloc, &dependencies)?)
 }
 
 /// The lowest LA, FA or splitter with an output that isn't grounded.
-pub(crate) fn loop_at(net: &Netlist, order: &Order) -> Option<Unsound>
+pub(crate) fn loop_at(net: &Netlist, drivers: &[CellId], order: &Order) -> Option<Unsound>
     requires clear { IsClear net.now 7 }
-    requires order { IsOrderOf (dependencies_of net.now) order.now }
+    requires drivers { HoldsDrivers net.now drivers.now }
+    requires order { IsOrderOf (dependencies_of net.now drivers.now) order.now }
     ensures { IsJudged net.now 8 result }
 {
     let cell = first_loose(net.cells(), order)?;
@@ -60,20 +64,21 @@ fn is_loose(order: &Order, cell: Cell) -> bool
     }
 }
 
-/// The cells as items that need and yield wires.
-fn dependencies(alloc: Global, net: &Netlist) -> Result<Dependencies, NoMemory>
-    ensures { IfOk result (λ dependencies. dependencies ≡ dependencies_of net.now) }
+/// The driving cells as items that need and yield wires.
+fn dependencies(alloc: Global, net: &Netlist, drivers: &[CellId]) -> Result<Dependencies, NoMemory>
+    requires { HoldsDrivers net.now drivers.now }
+    ensures { IfOk result (λ dependencies. dependencies ≡ dependencies_of net.now drivers.now) }
 {
     let starts = rail_wires(alloc, net.input_rails())?;
     let totals = Totals {
         starts: starts.len(),
-        items: net.cells().len() as usize,
+        items: drivers.len(),
         needs: net.wires() as usize,
         yields: net.wires() as usize,
     };
     let mut dependencies = Dependencies::with_capacity(alloc, net.wires() as usize, totals)?;
     dependencies.start(starts.as_slice())?;
-    add_cells(alloc, net, &mut dependencies)?;
+    add_cells(alloc, net, drivers, &mut dependencies)?;
     Ok(dependencies)
 }
 
@@ -88,16 +93,21 @@ fn rail_wires(alloc: Global, rails: &Row<RailId, Rail>) -> Result<Vec<u32>, NoMe
     Ok(wires)
 }
 
-/// Adds the cells to dependencies that have no item.
-fn add_cells(alloc: Global, net: &Netlist, dependencies: &mut Dependencies) -> Result<(), NoMemory>
-    requires { dependencies.old ≡ first_items (dependencies_of net.now) 0 }
-    ensures { OnOk result (dependencies.new ≡ dependencies_of net.now) }
+/// Adds the driving cells to dependencies that have no item.
+fn add_cells(
+    alloc: Global,
+    net: &Netlist,
+    drivers: &[CellId],
+    dependencies: &mut Dependencies,
+) -> Result<(), NoMemory>
+    requires drivers { HoldsDrivers net.now drivers.now }
+    requires begun { dependencies.old ≡ first_items (dependencies_of net.now drivers.now) 0 }
+    ensures { OnOk result (dependencies.new ≡ dependencies_of net.now drivers.now) }
 {
-    let _most = net.wires();
     let mut needs = Vec::new(alloc);
     let mut yields = Vec::new(alloc);
-    for number in 0..net.cells().len() {
-        let cell = *net.cells().get(CellId::new(number));
+    for driver in drivers {
+        let cell = *net.cells().get(*driver);
         needs.clear();
         push_needs(&mut needs, cell)?;
         yields.clear();

@@ -6,6 +6,7 @@
 
 mod checking;
 mod counting;
+mod driving_cells;
 mod grounding;
 mod links;
 mod rails;

@@ -6,6 +6,7 @@ ghost use Rattle.cell_netlist.specs.declared.lines.Cell.{Cell};
 ghost use Rattle.cell_netlist.specs.Netlists.{used, outs, reads};
 ghost use Rattle.cell_netlist.specs.Decisions.{is_some_with, differ, number_on};
 ghost use Rattle.dependency_order.specs.Orders.{IsOrderOf};
+ghost use Rattle.rail_checker.specs.DrivingCells.{HoldsDrivers};
 ghost use Rattle.rail_checker.specs.Needs.{dependencies_of};
 ghost use Rattle.rail_checker.specs.Tables.{AreFronts, AreBacks, AreRoots, root_at, fits_by, has_equal_preload};
 ghost use Rattle.rail_checker.specs.Verdicts.{IsFirst, PassesAt, IsJudged, IsClear};
@@ -21,14 +22,16 @@ use std::alloc::Global;
 pub(crate) fn roles_unsound(
     alloc: Global,
     net: &Netlist,
+    drivers: &[CellId],
     order: &Order,
 ) -> Result<Option<Unsound>, NoMemory>
     requires clear { IsClear net.now 8 }
-    requires order { IsOrderOf (dependencies_of net.now) order.now }
+    requires drivers { HoldsDrivers net.now drivers.now }
+    requires order { IsOrderOf (dependencies_of net.now drivers.now) order.now }
     ensures { IfOk result (λ found. IsJudged net.now 10 found) }
 {
     let fronts = front_table(alloc, net)?;
-    if let Some(unsound) = misfit(alloc, net, order, &fronts)? {
+    if let Some(unsound) = misfit(alloc, net, drivers, order, &fronts)? {
         return Ok(Some(unsound));
     }
     Ok(wrong_preload(net, &fronts))
@@ -38,16 +41,18 @@ pub(crate) fn roles_unsound(
 fn misfit(
     alloc: Global,
     net: &Netlist,
+    drivers: &[CellId],
     order: &Order,
     fronts: &Row<WireId, Option<bool>>,
 ) -> Result<Option<Unsound>, NoMemory>
     requires clear { IsClear net.now 8 }
-    requires order { IsOrderOf (dependencies_of net.now) order.now }
+    requires drivers { HoldsDrivers net.now drivers.now }
+    requires order { IsOrderOf (dependencies_of net.now drivers.now) order.now }
     requires fronts { AreFronts net.now fronts.now }
     ensures { IfOk result (λ found. IsJudged net.now 9 found) }
 {
     let backs = back_table(alloc, net)?;
-    let roots = root_table(alloc, net, order)?;
+    let roots = root_table(alloc, net, drivers, order)?;
     Ok(loose(net, fronts, &backs, &roots))
 }
 

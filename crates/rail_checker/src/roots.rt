@@ -4,6 +4,7 @@ ghost use Rattle.std.specs.Prelude.{◌≡◌, ◌<◌, ℕ, IfOk, length};
 ghost use Rattle.pulse_ids.specs.Lists.{IsIn};
 ghost use Rattle.cell_netlist.specs.Netlists.{outs, reads};
 ghost use Rattle.dependency_order.specs.Orders.{IsOrderOf};
+ghost use Rattle.rail_checker.specs.DrivingCells.{HoldsDrivers};
 ghost use Rattle.rail_checker.specs.Needs.{dependencies_of};
 ghost use Rattle.rail_checker.specs.Tables.{AreOwn, AreRoots, with_roots};
 ghost use Rattle.rail_checker.specs.Verdicts.{IsClear};
@@ -13,19 +14,21 @@ use dependency_order::Order;
 use pulse_ids::{CellId, Ident, NoMemory, Row, WireId};
 use std::alloc::Global;
 
-/// For each wire its root. It takes each cell once, after the driver of what it reads.
+/// For each wire its root. It takes each driving cell once, after the driver of what it reads.
 pub(crate) fn root_table(
     alloc: Global,
     net: &Netlist,
+    drivers: &[CellId],
     order: &Order,
 ) -> Result<Row<WireId, WireId>, NoMemory>
     requires clear { IsClear net.now 8 }
-    requires order { IsOrderOf (dependencies_of net.now) order.now }
+    requires drivers { HoldsDrivers net.now drivers.now }
+    requires order { IsOrderOf (dependencies_of net.now drivers.now) order.now }
     ensures { IfOk result (λ roots. AreRoots net.now roots) }
 {
     let mut roots = own_wires(alloc, net.wires())?;
     for item in order.items() {
-        put_roots(*net.cells().get(CellId::new(*item)), &mut roots);
+        put_roots(*net.cells().get(drivers[*item as usize]), &mut roots);
     }
     Ok(roots)
 }

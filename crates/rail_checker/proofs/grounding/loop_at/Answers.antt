@@ -16,11 +16,11 @@ first_loose-requires c cell i wire o =
 
 pub returns-in_err-cell : goal.returns-in_err-cell
 returns-in_err-cell c =
-    let first = first_loop c.args.net.now c.args.order.now c.requires.order c.cells.result.now c.cells.ensures None c.in_err-cell.ensures in
+    let first = first_loop c.args.net.now c.args.drivers.now c.requires.drivers c.args.order.now c.requires.order c.cells.result.now c.cells.ensures None c.in_err-cell.ensures in
     subst (λ (v : Option Unsound). IsJudged c.args.net.now 8 v) (sym c.from_residual.ensures)
     (judged_none c.args.net.now 7 8 (λ n. Loop (numbered n)) refl loop_at c.requires.clear first)
 
 pub returns : goal.returns
 returns c =
-    let first = first_loop c.args.net.now c.args.order.now c.requires.order c.cells.result.now c.cells.ensures (Some c.in_ok-cell.cell) c.in_ok-cell.ensures in
+    let first = first_loop c.args.net.now c.args.drivers.now c.requires.drivers c.args.order.now c.requires.order c.cells.result.now c.cells.ensures (Some c.in_ok-cell.cell) c.in_ok-cell.ensures in
     judged_some c.args.net.now 7 8 (λ n. Loop (numbered n)) refl loop_at c.requires.clear c.in_ok-cell.cell first (Loop c.new.result) refl c.new.ensures

@@ -3,4 +3,4 @@ use Rattle.rail_checker.proofs.roots.root_table.Given as goal
 
 -- the cells so far gave their outputs roots
 abbrev pub invariant-loop-item : goal.invariant-loop-item
-invariant-loop-item l = RootsTo l.net l.order.items l.item-index l.roots
+invariant-loop-item l = RootsTo l.net l.drivers l.order.items l.item-index l.roots

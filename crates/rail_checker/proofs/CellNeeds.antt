@@ -7,7 +7,7 @@ use Rattle.pulse_ids.specs.Lists.{IsIn}
 use Rattle.pulse_ids.proofs.CallerLemmas.{IsIn-at, IsIn-place, place_of, IsIn-map, IsIn-from_map, IsIn-contained, contained-IsIn}
 use Rattle.cell_netlist.specs.declared.lines.Cell.{Cell}
 use Rattle.cell_netlist.specs.declared.lines.Cell.TheVariants.{La, Fa, Split, Droc}
-use Rattle.cell_netlist.specs.Netlists.{PlainNetlist, wire_of, used, outs, reads, number_of_wires, most_lines, IsDroc, Grounded, of_rail, of_droc, of_gate}
+use Rattle.cell_netlist.specs.Netlists.{PlainNetlist, wire_of, used, outs, reads, number_of_wires, IsDroc, Grounded, of_rail, of_droc, of_gate}
 use Rattle.cell_netlist.proofs.CallerLemmas.{named_below}
 use Rattle.dependency_order.specs.Dependencies.{PlainDependencies, AreBelow, AreInRange, StaysSmall, first_items, with_item, needs_of, yields_of}
 use Rattle.dependency_order.specs.Orders.{Reached, at_start, by_item}

@@ -1,18 +1,18 @@
 -- The table of the cells that drive wires, and the list that is made of it.
-use Rattle.std.proofs.Common.{◌≡◌, ℕ, zero, suc, ◌+◌, ◌<◌, ◌≤◌, ◌⊎◌, inl, inr, List, [], ◌∷◌, length, map, get_or, Option, Some, None, slice_get, replicate, Bool, true, false, cond, nat_lt, refl, sym, ap, subst, ◌∙◌, arith, ltb-true}
+use Rattle.std.proofs.Common.{◌≡◌, ℕ, ◌+◌, ◌<◌, ◌≤◌, inl, inr, List, [], ◌∷◌, length, get_or, Some, None, slice_get, replicate, Bool, true, false, cond, nat_lt, refl, sym, ap, subst, ◌∙◌, arith, ltb-true}
 use Rattle.std.specs.List.{filter}
-use Rattle.std.proofs.lemmas.Bool.{cases_eq, cases_Bool, lt-ltb}
+use Rattle.std.proofs.lemmas.Bool.{cases_eq, lt-ltb}
 use Rattle.std.proofs.lemmas.List.{length-replicate}
 use Rattle.std.proofs.lemmas.List.Sums.{length-filter, count_by-le-length}
 use Rattle.std.proofs.lemmas.Option.{slice_get-map, slice_get-get_or, slice_get_within, get_or_from_slice_get}
-use Rattle.pulse_ids.specs.Ids.{CellId, WireId, numbered}
+use Rattle.pulse_ids.specs.Ids.{CellId, numbered}
 use Rattle.pulse_ids.specs.Lists.{IsIn}
 use Rattle.pulse_ids.specs.Quantities.{greatest_of}
 use Rattle.pulse_ids.specs.declared.quantities.Quantity.TheVariants.{Wires}
 use Rattle.pulse_ids.proofs.CallerLemmas.{IsIn-at, IsIn-place, place_of, IsIn-map, IsIn-from_map}
 use Rattle.cell_netlist.specs.declared.lines.Cell.{Cell}
 use Rattle.cell_netlist.specs.declared.lines.Cell.TheVariants.{La, Fa, Split, Droc}
-use Rattle.cell_netlist.specs.Netlists.{PlainNetlist, used, outs, number_of_wires, most_lines}
+use Rattle.cell_netlist.specs.Netlists.{PlainNetlist, outs, number_of_wires}
 use Rattle.cell_netlist.specs.Wired.{IsWired}
 use Rattle.cell_netlist.proofs.CallerLemmas.{named_below, driving_cell-is}
 use Rattle.rail_checker.specs.DrivingCells.{cell_of, cells_of, HoldsDrivers, ShowsDrivers, first_out, driver_at}

@@ -1,10 +1,10 @@
-use Rattle.std.proofs.Common.{◌≡◌, Some, length, slice_get, refl, ap, subst, ◌∙◌, arith, List}
+use Rattle.std.proofs.Common.{◌≡◌, Some, length, slice_get, refl, ap, ◌∙◌, arith, List}
 use Rattle.cell_netlist.specs.declared.lines.Cell.{Cell}
 use Rattle.cell_netlist.specs.Netlists.{outs}
 use Rattle.rail_checker.specs.DrivingCells.{cells_of}
 use Rattle.rail_checker.specs.Needs.{needs_of_cell}
 use Rattle.rail_checker.proofs.DriverTable.{number_here, cell_here}
-use Rattle.rail_checker.proofs.CellNeeds.{added_needs_fit, added_yields_fit, added_stays_small, added_is_first, all_added}
+use Rattle.rail_checker.proofs.CellNeeds.{added_needs_fit, added_yields_fit, added_stays_small, added_is_first}
 use Rattle.rail_checker.proofs.grounding.add_cells.Goals as goal
 
 pub get-cell-requires : goal.get-cell-requires

@@ -1,6 +1,6 @@
-use Rattle.std.proofs.Common.{◌≡◌, ◌<◌, ◌+◌, ℕ, List, Some, slice_get, length, sym, ap, subst, ◌∙◌, arith}
+use Rattle.std.proofs.Common.{◌≡◌, ◌<◌, ◌+◌, ℕ, List, Some, slice_get, length, sym, ap, subst, arith}
 use Rattle.std.specs.Prelude.{slice_index}
-use Rattle.pulse_ids.specs.Ids.{CellId, WireId}
+use Rattle.pulse_ids.specs.Ids.{WireId}
 use Rattle.pulse_ids.proofs.CallerLemmas.{IsIn-at, IsIn-place}
 use Rattle.cell_netlist.specs.declared.lines.Cell.{Cell}
 use Rattle.cell_netlist.proofs.CallerLemmas.{named_below}

@@ -172,7 +172,8 @@ module _ (net : PlainNetlist) (drivers : List CellId) (holds : HoldsDrivers net 
     pub added_stays_small : StaysSmall dependencies needs yields
     added_stays_small = subst (λ (d : PlainDependencies). StaysSmall d needs yields) (sym begun)
         (subst (λ l. StaysSmall (first_items (dependencies_of net drivers) i) l yields) its_needs
-        (subst (λ l. StaysSmall (first_items (dependencies_of net drivers) i) (needs_of (dependencies_of net drivers) i) l) its_yields (next_stays_small (dependencies_of net drivers) in_range i low)))
+        (subst (λ l. StaysSmall (first_items (dependencies_of net drivers) i) (needs_of (dependencies_of net drivers) i) l) its_yields
+        (next_stays_small (dependencies_of net drivers) in_range i low)))
 
     pub added_is_first : with_item dependencies needs yields ≡ first_items (dependencies_of net drivers) (i + 1)
     added_is_first = ap (λ (d : PlainDependencies). with_item d needs yields) begun ∙ ap (λ l. with_item (first_items (dependencies_of net drivers) i) l yields) (sym its_needs)

@@ -106,7 +106,8 @@ module _ (net : PlainNetlist) where
         let id : CellId = get_or table first.0 (numbered 0) in
         let within : first.0 < length table = omega (arith, s.width, (named_below net).of_outs cell i first.0 (first_driven cell first.0 first.1)) in
         let kept : IsIn id (filter is_cell table) = in_filter is_cell id table (IsIn-at table first.0 (numbered 0) within) (lt-ltb _ _ (omega (arith, shown, low))) in
-        let same : cell_of net id ≡ cell = ap (λ k. get_or net.cells k (Split (numbered 0) (numbered 0) (numbered 0))) shown ∙ get_or_from_slice_get net.cells at.0 cell (Split (numbered 0) (numbered 0) (numbered 0)) at.1 in
+        let same : cell_of net id ≡ cell =
+        ap (λ k. get_or net.cells k (Split (numbered 0) (numbered 0) (numbered 0))) shown ∙ get_or_from_slice_get net.cells at.0 cell (Split (numbered 0) (numbered 0) (numbered 0)) at.1 in
         subst (λ c. IsIn c (cells_of net (filter is_cell table))) same (IsIn-map (cell_of net) id (filter is_cell table) kept)
 
     pub drivers_held : number_of_wires net ≤ greatest_of Wires → HoldsDrivers net (filter is_cell table)

@@ -58,7 +58,8 @@ cell_apart net wires cell i none wire o from s =
     let same : s.0 ≡ cell = (driving_cell-is net wires wire there.0 here.0 s.0 cell there.1 here.1 (Splits-out s.0 from wire s.2) o).1 in
     none from wire (subst (λ c. Splits c from wire) same s.2)
 
-module _ (net : PlainNetlist) (rules : ℕ) (le : 8 ≤ rules) (clear : IsClear net rules) (drivers : List CellId) (holds : HoldsDrivers net drivers) (order : PlainOrder) (h : IsOrderOf (dependencies_of net drivers) order) where
+module _ (net : PlainNetlist) (rules : ℕ) (le : 8 ≤ rules) (clear : IsClear net rules) (drivers : List CellId) (holds : HoldsDrivers net drivers)
+    (order : PlainOrder) (h : IsOrderOf (dependencies_of net drivers) order) where
   wires : IsWired net
   wires = wired net rules (omega (arith, le)) clear
 
@@ -86,7 +87,8 @@ module _ (net : PlainNetlist) (rules : ℕ) (le : 8 ≤ rules) (clear : IsClear 
           let rail = IsIn-contained (map wire_of net.input_rails) wire i in own_root roots wire (own.own wire (rail_below wire rail)) (rail_apart wire rail)
       at_rail wire (inr y) = absurd (IsIn-contained [] y.0 y.1)
 
-  module _ (i : ℕ) (low : i < length order.items) (cell : Cell) (at : slice_get (cells_of net drivers) (slice_index order.items i) ≡ Some cell) (roots : List WireId) (r : RootsTo net drivers order.items i roots) where
+  module _ (i : ℕ) (low : i < length order.items) (cell : Cell) (at : slice_get (cells_of net drivers) (slice_index order.items i) ≡ Some cell)
+      (roots : List WireId) (r : RootsTo net drivers order.items i roots) where
     among : IsIn cell net.cells
     among = cell_among net drivers holds cell (IsIn-place cell (cells_of net drivers) (slice_index order.items i) at)
 
@@ -171,7 +173,8 @@ module _ (net : PlainNetlist) (rules : ℕ) (le : 8 ≤ rules) (clear : IsClear 
       ];
     }
 
-  pub roots_more : (i : ℕ) → i < length order.items → (cell : Cell) → slice_get (cells_of net drivers) (slice_index order.items i) ≡ Some cell → (roots : List WireId) → RootsTo net drivers order.items i roots
+  pub roots_more : (i : ℕ) → i < length order.items → (cell : Cell) → slice_get (cells_of net drivers) (slice_index order.items i) ≡ Some cell
+      → (roots : List WireId) → RootsTo net drivers order.items i roots
       → RootsTo net drivers order.items (i + 1) (with_roots roots cell)
   roots_more i low (La a b out) at roots r = unsplit i low (La a b out) at roots r (λ from to s. s)
   roots_more i low (Fa a b out) at roots r = unsplit i low (Fa a b out) at roots r (λ from to s. s)

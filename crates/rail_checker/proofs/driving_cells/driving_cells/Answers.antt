@@ -14,5 +14,6 @@ returns c =
     IfOk-weaker c.cells_within.result (λ cells. cells.items ≡ filter (λ id. nat_lt id.number c.len.result) c.items.result.now) (λ drivers. HoldsDrivers c.args.net.now drivers.items)
     (λ drivers e.
     subst (λ (l : List CellId). HoldsDrivers c.args.net.now l)
-    (sym (e ∙ ap (λ (n : ℕ). filter (λ id. nat_lt id.number n) c.items.result.now) count ∙ ap (λ (l : List CellId). filter (λ id. nat_lt id.number (length c.args.net.now.cells)) l) c.items.ensures)) held)
+    (sym (e ∙ ap (λ (n : ℕ). filter (λ id. nat_lt id.number n) c.items.result.now) count
+    ∙ ap (λ (l : List CellId). filter (λ id. nat_lt id.number (length c.args.net.now.cells)) l) c.items.ensures)) held)
     c.cells_within.ensures

@@ -52,5 +52,5 @@ loop-driver-preserved c =
     let needs : c.as_slice.result.now ≡ needs_of_cell c.get-cell.result.now = c.as_slice.ensures.value ∙ c.in_ok-push_needs.ensures ∙ rw (c.clear.ensures.items) refl in
     let yields : c.as_slice-in-loop-driver.result.now ≡ outs c.get-cell.result.now =
     c.as_slice-in-loop-driver.ensures.value ∙ c.in_ok-push_outs.ensures ∙ rw (c.clear-in-loop-driver.ensures.items) refl in
-    c.in_ok-push.ensures.ok ∙ added_is_first c.args.net.now c.args.drivers.now c.requires.drivers c.loop-driver.driver-index c.get-cell.result.now at c.loop-driver.dependencies c.loop-driver.invariant
-    c.as_slice.result.now c.as_slice-in-loop-driver.result.now needs yields
+    c.in_ok-push.ensures.ok ∙ added_is_first c.args.net.now c.args.drivers.now c.requires.drivers c.loop-driver.driver-index c.get-cell.result.now at c.loop-driver.dependencies
+    c.loop-driver.invariant c.as_slice.result.now c.as_slice-in-loop-driver.result.now needs yields

@@ -104,8 +104,8 @@ loop-item-preserved c =
     let at : slice_get (cells_of c.args.net.now c.args.drivers.now) (slice_index c.args.order.now.items c.loop-item.item-index) ≡ Some c.get.result.now =
     subst (λ k. slice_get (cells_of c.args.net.now c.args.drivers.now) k ≡ Some c.get.result.now) same here in
     subst (λ (l : List WireId). RootsTo c.args.net.now c.args.drivers.now c.args.order.now.items (c.loop-item.item-index + 1) l) (sym c.put_roots.ensures)
-    (roots_more c.args.net.now 8 (omega arith) c.requires.clear c.args.drivers.now c.requires.drivers c.args.order.now c.requires.order c.loop-item.item-index low c.get.result.now at c.loop-item.roots
-    c.loop-item.invariant)
+    (roots_more c.args.net.now 8 (omega arith) c.requires.clear c.args.drivers.now c.requires.drivers c.args.order.now c.requires.order c.loop-item.item-index low c.get.result.now at
+    c.loop-item.roots c.loop-item.invariant)
 
 pub returns : goal.returns
 returns c =

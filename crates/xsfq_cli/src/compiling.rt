@@ -55,6 +55,14 @@ fn emit<K: Sink>(net: &Netlist, output: &mut K) -> Result<(), Failed>
     output.flush()
 }
 
+/// The same of a sound netlist.
+fn emit_sound<K: Sink>(net: &SoundNet, output: &mut K) -> Result<(), Failed>
+    ensures written { WritesText (K.taken output.old) (K.taken output.new) (K.faults output.old) (K.faults output.new) result (text_of net.now) }
+    ensures flushed { OnOk result (IsTrue (K.flushed output.new)) }
+{
+    emit(net.net(), output)
+}
+
 impl Command for Compile {
     ghost use Rattle.std.specs.Prelude.{◌≡◌, ⊤};
     ghost use Rattle.cell_netlist.specs.Text.{text_of};
@@ -78,7 +86,7 @@ impl Command for Compile {
     }
 
     fn write<K: Sink>(task: SoundNet, output: &mut K) -> Result<Outcome, Failed> {
-        emit(task.net(), output)?;
+        emit_sound(&task, output)?;
         Ok(Outcome::Done)
     }
 }

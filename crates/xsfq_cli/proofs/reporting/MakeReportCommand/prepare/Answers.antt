@@ -1,6 +1,4 @@
 -- The report on the netlist of an input that was checked.
-use Rattle.std.proofs.Common.{subst}
-use Rattle.cell_netlist.specs.Netlists.{PlainNetlist, IsNetlist}
 use Rattle.xsfq_cli.proofs.SoundInputs.{is_checked}
 use Rattle.xsfq_cli.proofs.reporting.MakeReportCommand.prepare.Goals as goal
 
@@ -8,12 +6,12 @@ pub returns : goal.returns
 returns g c =
     let read = c.in_ok-net.ensures in
     let checked = is_checked c.equation_runs.ensures.exists c.every_order.ensures.bits c.texts_are_read.ensures.only read.0 c.in_ok-net.net read.2
-    (subst (λ (net : PlainNetlist). IsNetlist net) c.net-2.ensures.net c.wires.ensures.netlist) in (
+    c.reported.ensures.netlist in (
       read.0,
       read.1,
       λ text ending told. (
         c.in_ok-net.net,
-        record { checked = checked; told = record { report = c.in_ok-told.told; reports = c.in_ok-told.ensures; says = told.0 } },
+        record { checked = checked; told = record { report = c.in_ok-told.told; reports = c.in_ok-told.ensures.report; says = told.0 } },
         told.1,
       ),
     )

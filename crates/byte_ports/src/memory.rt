@@ -53,6 +53,13 @@ impl MemorySource {
             faults: 0,
         }
     }
+
+    /// The bytes that it has left.
+    pub fn left(&self) -> &[u8]
+        ensures { result.now ≡ self.now.left }
+    {
+        &self.bytes[self.at..]
+    }
 }
 
 impl Source for MemorySource {

@@ -1,9 +1,9 @@
-//! The tests of the checker. Outside tests there is no code here.
+//! The tests of the checker and of reports over netlists that no text of a case holds. Outside tests there is no code here.
 #![tactic(auto)]
 
 #[cfg(test)]
 mod chains;
 #[cfg(test)]
-mod nets;
+mod depths;
 #[cfg(test)]
-mod refusals;
+mod nets;

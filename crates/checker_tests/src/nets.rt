@@ -108,27 +108,6 @@ pub(crate) fn add_output(net: &mut Netlist, line: RailLine) -> Result<(), NoMemo
     Ok(())
 }
 
-/// The netlist of these lines.
-pub(crate) fn netlist(
-    alloc: Global,
-    ports: (u32, u32),
-    inputs: &[RailLine],
-    cells: &[CellLine],
-    outputs: &[RailLine],
-) -> Result<Netlist, NoMemory> {
-    let mut net = Netlist::new(alloc, ports.0, ports.1);
-    for line in inputs {
-        add_input(&mut net, *line)?;
-    }
-    for line in cells {
-        add_cell(&mut net, *line)?;
-    }
-    for line in outputs {
-        add_output(&mut net, *line)?;
-    }
-    Ok(net)
-}
-
 /// What the checker names, or none where the netlist is sound.
 pub(crate) fn verdict(alloc: Global, net: Netlist) -> Result<Option<Unsound>, NoMemory> {
     match check(alloc, net) {

@@ -1,2 +1,0 @@
--- What tests know of a reader.
-pub mod Taken

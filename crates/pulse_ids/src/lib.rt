@@ -6,6 +6,7 @@
 
 mod bits;
 mod ids;
+mod laws;
 mod literals;
 mod memory;
 mod names;
@@ -17,6 +18,7 @@ pub use ids::{
     CellId, CellKind, Id, Ident, NetId, NetKind, NodeId, NodeKind, RailId, RailKind, WireId,
     WireKind,
 };
+pub use laws::constant_codes;
 pub use literals::{Lit, Literal, NodeLit, Sign};
 pub use memory::NoMemory;
 pub use names::Name;

@@ -1,6 +1,6 @@
 //! Ports over the readers and writers of std. Over a file, a pipe or a terminal they tell no bytes.
 
-ghost use Rattle.std.specs.Prelude.{◌≡◌, ◌⊎◌, ◌-◌, ◌^◌, ◌<◌, IfOk, IsErr, IsFalse, IsOk, IsTrue, Ok, OnErr, OnOk, false, length};
+ghost use Rattle.std.specs.Prelude.{◌≡◌, ◌-◌, ◌^◌, ◌<◌, IfOk, IsErr, IsFalse, IsOk, IsTrue, Ok, OnErr, OnOk, false, length};
 ghost use Rattle.std.specs.Io.{ReadsAtMost, WritesAtMost};
 ghost use Rattle.std.specs.Io.KnownBytes.{Keeps, ReadConsumes, WriteAppends};
 ghost use Rattle.std.proofs.Math.Nat.{min-le_right};
@@ -85,21 +85,21 @@ impl<W: Write> StdSink<W> {
         }
     }
 
-    // What a write answers, from what the writer answered: its count, where it took something or the
-    // piece is empty; otherwise `Failed` and one fault more.
-    fn after_write(&mut self, answer: io::Result<usize>, empty: bool) -> Result<usize, Failed>
+    // What a write of a piece that isn't empty answers, from what the writer answered: its count, where
+    // it took something; otherwise `Failed` and one fault more.
+    fn after_write(&mut self, answer: io::Result<usize>) -> Result<usize, Failed>
         ensures writer { self.new.writer ≡ self.old.writer }
         ensures unflushed { IsFalse self.new.flushed }
-        ensures passed { IfOk answer (λ count. (0 < count) ⊎ IsTrue empty → result ≡ Ok count) }
-        ensures calm { IfOk answer (λ count. (0 < count) ⊎ IsTrue empty → self.new.faults ≡ self.old.faults) }
-        ensures stuck { IfOk answer (λ count. count ≡ 0 → IsFalse empty → IsErr result) }
-        ensures stuck_counted { IfOk answer (λ count. count ≡ 0 → IsFalse empty → self.new.faults ≡ one_more self.old.faults) }
+        ensures passed { IfOk answer (λ count. 0 < count → result ≡ Ok count) }
+        ensures calm { IfOk answer (λ count. 0 < count → self.new.faults ≡ self.old.faults) }
+        ensures stuck { IfOk answer (λ count. count ≡ 0 → IsErr result) }
+        ensures stuck_counted { IfOk answer (λ count. count ≡ 0 → self.new.faults ≡ one_more self.old.faults) }
         ensures failed { OnErr answer (IsErr result) }
         ensures counted { OnErr answer (self.new.faults ≡ one_more self.old.faults) }
     {
         self.flushed = false;
         match answer {
-            Ok(count) if 0 < count || empty => Ok(count),
+            Ok(count) if 0 < count => Ok(count),
             _ => {
                 self.faults = self.faults.saturating_add(1);
                 Err(Failed)
@@ -137,6 +137,7 @@ impl<W: Write> Sink for StdSink<W> {
 
     ghost limit = { λ s. min-le_right s.faults (2 ^ 64 - 1) };
 
+    /// As every sink. Of an empty piece it answers 0, and doesn't call the writer.
     fn write(&mut self, bytes: &[u8]) -> Result<usize, Failed>
         ensures bound { WritesAtMost result bytes.now }
         ensures progress { 0 < length bytes.now → IfOk result (λ count. 0 < count) }
@@ -144,9 +145,15 @@ impl<W: Write> Sink for StdSink<W> {
         ensures cause { HasCause (as_count self.old.faults) (as_count self.new.faults) result }
         ensures unflushed { IsFalse self.new.flushed }
         ensures counted { OnErr result (self.new.faults ≡ one_more self.old.faults) }
+        ensures empty { length bytes.now ≡ 0 → result ≡ Ok 0 }
+        ensures uncalled { length bytes.now ≡ 0 → self.new ≡ record self.old { flushed = false } }
     {
+        if bytes.is_empty() {
+            self.flushed = false;
+            return Ok(0);
+        }
         let answer = self.writer.write(bytes);
-        self.after_write(answer, bytes.is_empty())
+        self.after_write(answer)
     }
 
     fn flush(&mut self) -> Result<(), Failed>

@@ -4,7 +4,7 @@ ghost use Rattle.std.specs.Prelude.{◌≡◌, ◌≤◌, ◌<◌, ◌-◌, ◌^
 ghost use Rattle.std.specs.Io.{WritesAtMost};
 ghost use Rattle.std.specs.Io.KnownBytes.{Appends, Keeps, WriteAppends, append_known};
 ghost use Rattle.std.proofs.Math.Nat.{min-le_right};
-ghost use Rattle.byte_ports.specs.Causes.{HasCause, as_count, one_more};
+ghost use Rattle.byte_ports.specs.Causes.{HasCause, Rose, as_count, one_more};
 
 use byte_ports::{Failed, Sink};
 use std::alloc::Global;
@@ -17,7 +17,7 @@ const ROOM: usize = 8_192;
 ///
 /// Once a call of the sink below has failed, every call fails, and none reaches the sink below. What is held back
 /// then, and whenever the value is given up, goes nowhere: only a flush that succeeded tells that all was handed
-/// on.
+/// on. Where a call succeeds, no call of the sink below has failed in it.
 #[derive(Drop)]
 pub struct BufferedSink<K> {
     sink: K,
@@ -79,6 +79,8 @@ impl<K: Sink> BufferedSink<K> {
     fn send(&mut self) -> Result<(), Failed>
         ensures taken { Keeps (append_known (K.taken self.old.sink) self.old.held.items) (append_known (K.taken self.new.sink) self.new.held.items) }
         ensures sent { OnOk result (self.new.held.items ≡ []) }
+        ensures calm_below { OnOk result (K.faults self.new.sink ≡ K.faults self.old.sink) }
+        ensures failed_below { OnErr result (Rose (K.faults self.old.sink) (K.faults self.new.sink)) }
         ensures calm { OnOk result (self.new.faults ≡ self.old.faults) }
         ensures whole { OnOk result (self.new.broken ≡ self.old.broken) }
         ensures flushed { OnOk result (self.new.flushed ≡ self.old.flushed) }
@@ -101,6 +103,8 @@ impl<K: Sink> BufferedSink<K> {
         ensures progress { 0 < length bytes.now → IfOk result (λ count. 0 < count) }
         ensures bytes { WriteAppends (K.taken self.old.sink) (K.taken self.new.sink) result bytes.now }
         ensures held { self.new.held ≡ self.old.held }
+        ensures calm_below { OnOk result (K.faults self.new.sink ≡ K.faults self.old.sink) }
+        ensures failed_below { OnErr result (Rose (K.faults self.old.sink) (K.faults self.new.sink)) }
         ensures calm { OnOk result (self.new.faults ≡ self.old.faults) }
         ensures whole { OnOk result (self.new.broken ≡ self.old.broken) }
         ensures flushed { OnOk result (self.new.flushed ≡ self.old.flushed) }
@@ -134,6 +138,8 @@ impl<K: Sink> Sink for BufferedSink<K> {
         ensures goes_on { OnOk result (IsFalse self.new.broken) }
         ensures stopped { IsTrue self.old.broken → IsErr result }
         ensures spared { IsTrue self.old.broken → self.new.sink ≡ self.old.sink }
+        ensures calm_below { OnOk result (K.faults self.new.sink ≡ K.faults self.old.sink) }
+        ensures failed_below { OnErr result (IsFalse self.old.broken → Rose (K.faults self.old.sink) (K.faults self.new.sink)) }
     {
         self.flushed = false;
         if self.broken {
@@ -162,6 +168,8 @@ impl<K: Sink> Sink for BufferedSink<K> {
         ensures goes_on { OnOk result (IsFalse self.new.broken) }
         ensures stopped { IsTrue self.old.broken → IsErr result }
         ensures spared { IsTrue self.old.broken → self.new.sink ≡ self.old.sink }
+        ensures calm_below { OnOk result (K.faults self.new.sink ≡ K.faults self.old.sink) }
+        ensures failed_below { OnErr result (IsFalse self.old.broken → Rose (K.faults self.old.sink) (K.faults self.new.sink)) }
     {
         if self.broken {
             return Err(self.fail());
@@ -184,6 +192,8 @@ fn send_prefix<K: Sink>(sink: &mut K, bytes: &[u8]) -> (usize, Result<(), Failed
     ensures all { OnOk result.1 (result.0 ≡ length bytes.now) }
     ensures bytes { Appends (K.taken sink.old) (K.taken sink.new) (take result.0 bytes.now) }
     ensures bound { result.0 ≤ length bytes.now }
+    ensures calm { OnOk result.1 (K.faults sink.new ≡ K.faults sink.old) }
+    ensures failed { OnErr result.1 (Rose (K.faults sink.old) (K.faults sink.new)) }
 {
     let mut count = 0;
     while count < bytes.len() {

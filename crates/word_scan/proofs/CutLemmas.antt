@@ -95,6 +95,11 @@ plain_without_end line piece none plain =
     let prefix = plain_prefix piece (length piece) (omega arith) (λ k h. fails_before_first (λ b. eqb b 10) piece k 0 (omega arith)) in
     All-append (λ b. b ≢ 10) line piece plain (subst HasNoFeed (take_all (length piece) piece (omega arith)) prefix)
 
+-- what the next byte goes on
+pub plain_begun : (whole : Bool) (line : List ℕ) → HasNoFeed line → HasNoFeed (cond whole [] line)
+plain_begun true line plain = λ k d lt e. absurd (omega (arith, lt))
+plain_begun false line plain = plain
+
 -- the first line of a piece
 pub first_part : (piece : List ℕ) (i : ℕ) → position (λ b. eqb b 10) piece ≡ Some i → TakesPart [] piece (whole_part (take i piece)) (take i piece)
 first_part piece i found =

@@ -32,9 +32,13 @@ pub record PlainLines : Type 0 where
   pub whole : Bool
   pub number : ℕ
 
+-- what the next byte goes on: a line, or nothing where it is whole
+abbrev pub unless_whole : Bool → List ℕ → List ℕ
+unless_whole whole line = if whole then [] else line
+
 -- the line that the next byte goes on
 abbrev pub begun : PlainLines → List ℕ
-begun lines = if lines.whole then [] else lines.line
+begun lines = unless_whole lines.whole lines.line
 
 -- the number of that line
 abbrev pub next_number : PlainLines → ℕ

@@ -1,7 +1,7 @@
 //! The lines of a text that comes in pieces.
 
 ghost use Rattle.std.specs.Prelude.{◌≡◌, ◌≤◌, ◌<◌, ◌+◌, ◌^◌, ◌-◌, false, ◌++◌, [], ℕ, List, take, length, position, IfOk, OnErr, OnOk, IfSome, IfNone, IsTrue, ◌↔◌, ◌&&◌, ◌==◌, ◌≢◌};
-ghost use Rattle.word_scan.specs.Lines.{PlainLines, begun, next_number, TakesPart, TakesWhole, IsAt, HasNoFeed, whole_part};
+ghost use Rattle.word_scan.specs.Lines.{PlainLines, unless_whole, begun, next_number, TakesPart, TakesWhole, IsAt, HasNoFeed, whole_part};
 
 use pulse_ids::NoMemory;
 use std::alloc::Global;
@@ -54,23 +54,36 @@ fn first_line(piece: &[u8]) -> Option<&[u8]>
     Some(&piece[..end])
 }
 
-/// Adds the bytes up to the first LF, and answers what it took.
-fn take_part(line: &mut Vec<u8>, piece: &[u8]) -> Result<Taken, NoMemory>
+/// Puts bytes behind a line, or in place of one that is whole.
+fn put(line: &mut Vec<u8>, whole: bool, part: &[u8]) -> Result<(), NoMemory>
+    ensures ok { OnOk result (line.new.items ≡ unless_whole whole line.old.items ++ part.now) }
+    ensures err { OnErr result (line.new.items ≡ line.old.items) }
+{
+    line.reserve(part.len())?;
+    if whole {
+        line.clear();
+    }
+    line.extend_from_slice(part)?;
+    Ok(())
+}
+
+/// Puts the bytes up to the first LF behind a line, or in place of one that is whole, and answers what it took.
+fn take_part(line: &mut Vec<u8>, whole: bool, piece: &[u8]) -> Result<Taken, NoMemory>
     requires { HasNoFeed line.old.items }
     ensures plain { OnOk result (HasNoFeed line.new.items) }
-    ensures taken { IfOk result (λ taken. TakesPart line.old.items piece.now taken line.new.items) }
+    ensures taken { IfOk result (λ taken. TakesPart (unless_whole whole line.old.items) piece.now taken line.new.items) }
     ensures err { OnErr result (line.new.items ≡ line.old.items) }
 {
     match line_feed(piece) {
         Some(end) => {
-            line.extend_from_slice(&piece[..end])?;
+            put(line, whole, &piece[..end])?;
             Ok(Taken {
                 used: end + 1,
                 whole: true,
             })
         }
         None => {
-            line.extend_from_slice(piece)?;
+            put(line, whole, piece)?;
             Ok(Taken {
                 used: piece.len(),
                 whole: false,
@@ -98,6 +111,18 @@ impl Lines {
         self.whole || self.line.is_empty()
     }
 
+    /// The number of the line that the next byte goes on.
+    fn next_number(&self) -> u32
+        requires { next_number self.now ≤ 2 ^ 31 }
+        ensures { result ≡ next_number self.now }
+    {
+        if self.whole {
+            self.number + 1
+        } else {
+            self.number
+        }
+    }
+
     /// Begins the next line after a whole one.
     fn begin(&mut self)
         requires { next_number self.old ≤ 2 ^ 31 }
@@ -112,18 +137,18 @@ impl Lines {
 
     /// Takes the bytes up to and with the first LF of the piece, or all of them where it has none.
     /// After a whole line it begins the next one. Fewer than 2^31 lines were whole before, as where
-    /// fewer than 2^31 bytes were taken in all. Want of memory changes nothing but that the next
-    /// line has begun.
+    /// fewer than 2^31 bytes were taken in all. Want of memory changes nothing.
     pub fn take(&mut self, piece: &[u8]) -> Result<Taken, NoMemory>
         requires { next_number self.old ≤ 2 ^ 31 }
         ensures part { IfOk result (λ taken. TakesPart (begun self.old) piece.now taken self.new.line) }
         ensures whole { IfOk result (λ taken. self.new.whole ≡ taken.whole) }
         ensures number { IfOk result (λ _. self.new.number ≡ next_number self.old) }
         ensures at { IfOk result (λ taken. (text : List ℕ) → IsAt text self.old → IsAt (text ++ take taken.used piece.now) self.new) }
-        ensures err { OnErr result ((text : List ℕ) → IsAt text self.old → IsAt text self.new) }
+        ensures err { OnErr result (self.new ≡ self.old) }
     {
-        self.begin();
-        let taken = take_part(&mut self.line, piece)?;
+        let number = self.next_number();
+        let taken = take_part(&mut self.line, self.whole, piece)?;
+        self.number = number;
         self.whole = taken.whole;
         Ok(taken)
     }

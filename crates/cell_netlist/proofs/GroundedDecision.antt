@@ -33,7 +33,7 @@ module _ {X : Type 0} where
       ]
 
   -- and by more items, where one is new
-  how_many-lt : (f g : X → Bool) (xs : List X) → ((x : X) → IsIn x xs → f x ≡ true → g x ≡ true)
+  pub how_many-lt : (f g : X → Bool) (xs : List X) → ((x : X) → IsIn x xs → f x ≡ true → g x ≡ true)
       → (new : X) → IsIn new xs → f new ≡ false → g new ≡ true → how_many f xs + 1 ≤ how_many g xs
   how_many-lt f g [] more new h miss hit = absurd h
   how_many-lt f g (x ∷ xs) more new (inl same) miss hit =
@@ -48,7 +48,7 @@ module _ {X : Type 0} where
         | inr miss ↦ rw miss (omega arith)
       ]
 
-  how_many-most : (f : X → Bool) (xs : List X) → how_many f xs ≤ length xs
+  pub how_many-most : (f : X → Bool) (xs : List X) → how_many f xs ≤ length xs
   how_many-most f [] = omega arith
   how_many-most f (x ∷ xs) = let r = how_many-most f xs in elim (cases_Bool (f x)) [ inl hit ↦ rw hit (omega arith) | inr miss ↦ rw miss (omega arith) ]
 

@@ -1,5 +1,5 @@
 -- The decision on leanness tells its properties.
-use Rattle.std.proofs.Common.{◌≡◌, ◌≤◌, ℕ, zero, suc, Bool, true, false, not, ◌&&◌, ◌==◌, is_some, List, [], ◌∷◌, ◌++◌, map, length, ap, sym, ◌∙◌, subst, inl, inr, arith, refl, if◌then◌else◌}
+use Rattle.std.proofs.Common.{◌≡◌, ◌≤◌, ℕ, Bool, true, false, not, ◌&&◌, ◌==◌, is_some, List, [], ◌∷◌, map, length, ap, sym, ◌∙◌, subst, inl, inr, arith, refl}
 use Rattle.std.specs.List.{flat_map, list_any}
 use Rattle.std.proofs.lemmas.Bool.{and_parts, and_from, or_left, or_right, eqb-true, eq-eqb, cases_Bool, leb-true, true≢false}
 use Rattle.pulse_ids.specs.Ids.{WireId}
@@ -9,40 +9,17 @@ use Rattle.cell_netlist.specs.declared.kinds.Role.TheVariants.{Front, Back, Cons
 use Rattle.cell_netlist.specs.declared.lines.Cell.{Cell}
 use Rattle.cell_netlist.specs.declared.lines.Cell.TheVariants.{La, Fa, Split, Droc}
 use Rattle.pulse_ids.specs.Lists.{IsIn, HowManyHave, ceil_log2}
-use Rattle.cell_netlist.specs.Netlists.{PlainNetlist, wire_of, outs, reads, number_of_wires, IsRoot}
-use Rattle.cell_netlist.specs.Lean.{Useful, of_output, of_cell, ReadsRoots, IsSamePair, AreRailsOfOnePort, AreOutputsOfOneDroc, IsConstant, IsOutputOfConstant, reads_of_leaf, leaves, IsLean}
+use Rattle.cell_netlist.specs.Netlists.{PlainNetlist, wire_of, outs, number_of_wires, IsRoot}
+use Rattle.cell_netlist.specs.Lean.{ReadsRoots, IsSamePair, AreRailsOfOnePort, AreOutputsOfOneDroc, IsConstant, IsOutputOfConstant, reads_of_leaf, leaves, IsLean}
 use Rattle.cell_netlist.specs.Decisions.{has, is_same_sign, droc_outs, is_none_driven_twice}
-use Rattle.cell_netlist.specs.LeanDecisions.{how_many, climbed, root_of, is_all_rooted, with_reads, useful_through, useful_after, is_same_pair, have_other_roots, are_both_rails, are_rails_of_one_port, are_outputs_of_one_droc, constant_outs, is_output_of_constant, are_lean_roots, is_lean_gate, is_balanced_at, is_lean}
-use Rattle.pulse_ids.proofs.CallerLemmas.{IsIn-append, IsIn-left, IsIn-place, IsIn-from_map, IsIn-flat_map}
-use Rattle.cell_netlist.proofs.ListLemmas.{all_below-at, list_all-at, list_any-at, list_any-from, all_pairs-at, has-at, has-from}
+use Rattle.cell_netlist.specs.LeanDecisions.{how_many, climbed, root_of, is_all_rooted, useful_after, is_same_pair, have_other_roots, are_both_rails, are_rails_of_one_port, are_outputs_of_one_droc, constant_outs, is_output_of_constant, are_lean_roots, is_lean_gate, is_balanced_at, is_lean}
+use Rattle.pulse_ids.proofs.CallerLemmas.{IsIn-left, IsIn-place, IsIn-flat_map}
+use Rattle.cell_netlist.proofs.ListLemmas.{all_below-at, list_all-at, list_any-from, all_pairs-at, has-at, has-from}
 use Rattle.cell_netlist.proofs.SoundDecisions.{same_sign-at, droc_outs-is}
 use Rattle.cell_netlist.proofs.Roots.{root_is, root_climbed}
+use Rattle.cell_netlist.proofs.UsefulDecision.{useful_after-useful}
 
 module _ (net : PlainNetlist) (once : is_none_driven_twice net ≡ true) where
-  -- useful wires
-  with_reads-useful : (cell : Cell) → IsIn cell net.cells → (known : List ℕ) → ((w : ℕ) → IsIn w known → Useful net w)
-      → (w : ℕ) → IsIn w (with_reads cell known) → Useful net w
-  with_reads-useful cell among known all w h = elim (cases_Bool (list_any (λ out. has out known) (outs cell))) [
-    | inl hit ↦ elim (IsIn-append w (reads cell) known (subst (λ (b : Bool). IsIn w (if b then reads cell ++ known else known)) hit h)) [
-      | inl port ↦
-          let out = list_any-at (λ out. has out known) (outs cell) hit in
-          of_cell w cell among port out.0 out.1 (all out.0 (has-at out.0 known out.2))
-      | inr old ↦ all w old
-    ]
-    | inr miss ↦ all w (subst (λ (b : Bool). IsIn w (if b then reads cell ++ known else known)) miss h)
-  ]
-
-  useful_through-useful : (cells : List Cell) → ((cell : Cell) → IsIn cell cells → IsIn cell net.cells) → (known : List ℕ)
-      → ((w : ℕ) → IsIn w known → Useful net w) → (w : ℕ) → IsIn w (useful_through cells known) → Useful net w
-  useful_through-useful [] sub known all w h = all w h
-  useful_through-useful (cell ∷ cells) sub known all w h =
-      with_reads-useful cell (sub cell (inl refl)) (useful_through cells known)
-      (λ v g. useful_through-useful cells (λ c i. sub c (inr i)) known all v g) w h
-
-  useful_after-useful : (n w : ℕ) → IsIn w (useful_after net n) → Useful net w
-  useful_after-useful zero w h = let found = IsIn-from_map wire_of w net.output_rails h in of_output w found.0 found.1 found.2
-  useful_after-useful (suc n) w h = useful_through-useful net.cells (λ c g. g) (useful_after net n) (λ v g. useful_after-useful n v g) w h
-
   -- how many leaves have a root
   how_many-is : {X : Type 0} (P : X → Type 0) (test : X → Bool) (xs : List X) (k : ℕ) → ((x : X) → IsIn x xs → P x → test x ≡ true)
       → ((x : X) → IsIn x xs → test x ≡ true → P x) → HowManyHave P xs k → k ≡ how_many test xs
@@ -98,7 +75,7 @@ module _ (net : PlainNetlist) (once : is_none_driven_twice net ≡ true) where
     rooted-at wire h = list_all-at (λ w. is_some (climbed net w)) (leaves net) rooted wire h
 
     -- the ports of a gate are leaves
-    ports-leaves : (cell : Cell) → IsIn cell net.cells → (w : ℕ) → IsIn w (reads_of_leaf cell) → IsIn w (leaves net)
+    pub ports-leaves : (cell : Cell) → IsIn cell net.cells → (w : ℕ) → IsIn w (reads_of_leaf cell) → IsIn w (leaves net)
     ports-leaves cell among w h = IsIn-left w (flat_map reads_of_leaf net.cells) (map wire_of net.output_rails) (IsIn-flat_map reads_of_leaf w cell net.cells among h)
 
     -- what the roots of a gate's ports are
@@ -171,7 +148,7 @@ is_lean-at net e =
     record {
       useful = λ wire lt.
           let known = useful_after net (length net.cells) in
-          useful_after-useful net once (length net.cells) wire (has-at wire known (all_below-at (λ w. has w known) (number_of_wires net) p3.0 wire lt));
+          useful_after-useful net (length net.cells) wire (has-at wire known (all_below-at (λ w. has w known) (number_of_wires net) p3.0 wire lt));
       once = λ first later cell other gate a b c d lt at_first at_later h g pair.
           other_roots net once rooted cell other gate a b c d (IsIn-place cell net.cells first at_first) (IsIn-place other net.cells later at_later) h g
           (all_pairs-at (have_other_roots net) net.cells p4.0 first later cell other lt at_first at_later) pair;

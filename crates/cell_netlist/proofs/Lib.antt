@@ -4,6 +4,9 @@ pub mod ListLemmas
 pub mod SoundDecisions
 pub mod Roots
 pub mod LeanDecisions
+pub mod UsefulDecision
+pub mod LeanIsDecided
+pub mod LeavesAreCounted
 pub mod ComputedRuns
 pub mod ExampleRuns
 pub mod Refusals

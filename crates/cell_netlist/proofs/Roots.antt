@@ -183,7 +183,7 @@ module _ (net : PlainNetlist) (once : is_none_driven_twice net ≡ true) where
         | inr other ↦ steps root m last.0 last.1 d (omega arith)
       ]
 
-  few_splitters : (root m w : ℕ) → SplittersBelow net m root w → ((from : ℕ) → HasSplitter net from root → ⊥) → m ≤ length net.cells
+  pub few_splitters : (root m w : ℕ) → SplittersBelow net m root w → ((from : ℕ) → HasSplitter net from root → ⊥) → m ≤ length net.cells
   few_splitters root m w h first = enough (λ d cell. SplittersBelow net d root (source_of cell))
       (λ d e cell one other. (one_chain d e root root (source_of cell) one first other first).1) m net.cells (steps root m w h)
 
@@ -192,7 +192,7 @@ module _ (net : PlainNetlist) (once : is_none_driven_twice net ≡ true) where
   above-none w first (Some from) e = absurd (first from (splitter_above-at net net.cells w from e))
 
   -- a climb that goes far enough ends at the root
-  climb-ends : (n m root w : ℕ) → SplittersBelow net m root w → ((from : ℕ) → HasSplitter net from root → ⊥) → m < n → climb net.cells n w ≡ Some (root, m)
+  pub climb-ends : (n m root w : ℕ) → SplittersBelow net m root w → ((from : ℕ) → HasSplitter net from root → ⊥) → m < n → climb net.cells n w ≡ Some (root, m)
   climb-ends zero m root w h first lt = absurd (omega arith)
   climb-ends (suc n) zero root w h first lt =
       let none = above-none root first (splitter_above net.cells root) refl in

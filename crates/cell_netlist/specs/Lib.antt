@@ -15,6 +15,7 @@ pub mod NetRuns
 pub mod Decisions
 pub mod Lean
 pub mod LeanDecisions
+pub mod LeanLaws
 pub mod Asked
 pub mod Delivery
 pub mod ExampleNetlists

@@ -2,6 +2,7 @@
 
 ghost use Rattle.cell_netlist.specs.Decisions.{DecisionsOfRulesAreRight, SoundDecisionIsRight, SoundIsDecided};
 ghost use Rattle.cell_netlist.specs.Refused.{SoundIsNotRefused, FirstRefusalsAreEqual, UnbrokenIsSound, SoundOrRefused};
+ghost use Rattle.cell_netlist.specs.LeanLaws.{UsefulIsDecided, LeanIsDecided, SoundLeanIsDecided, LeavesAreCounted, CountsOfLeavesAreEqual, LeavesAreBalanced};
 ghost use Rattle.cell_netlist.specs.LeanDecisions.{RootsAreUnique, RootsAreClimbed, ClimbsEndAtRoots, LeanDecisionIsRight};
 ghost use Rattle.cell_netlist.specs.Text.{TextsAreNoPrefixes};
 ghost use Rattle.cell_netlist.specs.WireLaws.{NamedWiresAreBelow, DriversAreOnTheirWires, ReadersAreOnTheirWires, OutsHavePlaces, ReadsHavePlaces, DriversAreUnique, ReadersAreUnique, DrivingCellsAreUnique, ReadingCellsAreUnique, WiresAreGrounded, WiresHaveRoots, AnotherFeedLeavesRest};
@@ -23,13 +24,25 @@ pub fn one_refusal()
     ensures refused { SoundOrRefused }
 {}
 
-/// Where no wire is driven twice a wire has one root, which the climb finds; the decisions on leanness tell its
-/// properties.
+/// Where no wire is driven twice a wire has one root, which the climb finds. The decisions on leanness tell its
+/// properties: a netlist that passes them is lean, and a lean one in which each leaf has a root passes them. So a sound
+/// netlist is lean just where it passes them.
 pub fn lean_decisions()
     ensures unique { RootsAreUnique }
     ensures climbed { RootsAreClimbed }
     ensures ends { ClimbsEndAtRoots }
     ensures lean { LeanDecisionIsRight }
+    ensures useful { UsefulIsDecided }
+    ensures decided { LeanIsDecided }
+    ensures sound { SoundLeanIsDecided }
+{}
+
+/// In a sound netlist each root has one number of readers that are no splitters; so leanness bounds the depth of each
+/// of them.
+pub fn leaves_of_roots()
+    ensures counted { LeavesAreCounted }
+    ensures one { CountsOfLeavesAreEqual }
+    ensures balanced { LeavesAreBalanced }
 {}
 
 /// A wire is driven and read as often as it has places, and a delivery is what comes of the pulse at the wire's

@@ -19,8 +19,8 @@ pub use equations::equation_runs;
 pub use examples::examples_hold;
 pub use kinds::{Ask, CellState, Gate, Held, Phase, Port, Role};
 pub use laws::{
-    another_feed, lean_decisions, more_lines, one_place_a_wire, one_refusal, places_of_wires,
-    readers_of_wires, roots_of_wires, sound_decisions, texts_of_netlists,
+    another_feed, lean_decisions, leaves_of_roots, more_lines, one_place_a_wire, one_refusal,
+    places_of_wires, readers_of_wires, roots_of_wires, sound_decisions, texts_of_netlists,
 };
 pub use lines::{Cell, Driver, Rail, Reader};
 pub use netlists::Netlist;

@@ -1,6 +1,6 @@
 //! Lines: words parted by one space and ended by LF.
 
-ghost use Rattle.std.specs.Prelude.{◌∷◌, map, IsFalse, OnOk};
+ghost use Rattle.std.specs.Prelude.{◌∷◌, ◌<◌, map, length, IsFalse};
 ghost use Rattle.std.specs.List.{flat_map};
 ghost use Rattle.byte_ports.specs.Writing.{WritesText};
 ghost use Rattle.cell_netlist.specs.Text.{cell_words, line_of, name_words, rail_words};
@@ -12,14 +12,16 @@ use cell_netlist::{Cell, Rail};
 use pulse_ids::Name;
 
 fn write_spaced<K: Sink>(out: &mut K, word: Word<'_>) -> Result<(), Failed>
-    ensures { WritesText (K.taken out.old) (K.taken out.new) (K.faults out.old) (K.faults out.new) result (spaced word.entry) }
+    ensures written { WritesText (K.taken out.old) (K.taken out.new) (K.faults out.old) (K.faults out.new) result (spaced word.entry) }
+    ensures unflushed { IsFalse (K.flushed out.new) }
 {
     write_all(out, b" ")?;
     write_word(out, word)
 }
 
 fn write_words<K: Sink>(out: &mut K, words: &[Word<'_>]) -> Result<(), Failed>
-    ensures { WritesText (K.taken out.old) (K.taken out.new) (K.faults out.old) (K.faults out.new) result (flat_map spaced words.entry.now) }
+    ensures written { WritesText (K.taken out.old) (K.taken out.new) (K.faults out.old) (K.faults out.new) result (flat_map spaced words.entry.now) }
+    ensures unflushed { IsFalse (K.flushed out.old) → IsFalse (K.flushed out.new) }
 {
     for word in words {
         write_spaced(out, *word)?;
@@ -34,7 +36,8 @@ pub(crate) fn write_line<K: Sink>(
     words: &[Word<'_>],
 ) -> Result<(), Failed>
     ensures written { WritesText (K.taken out.old) (K.taken out.new) (K.faults out.old) (K.faults out.new) result (line_of (first.now ∷ map word_text words.entry.now)) }
-    ensures unflushed { OnOk result (IsFalse (K.flushed out.new)) }
+    ensures stays { IsFalse (K.flushed out.old) → IsFalse (K.flushed out.new) }
+    ensures unflushed { 0 < length first.now → IsFalse (K.flushed out.new) }
 {
     write_all(out, first)?;
     write_words(out, words)?;
@@ -43,7 +46,8 @@ pub(crate) fn write_line<K: Sink>(
 
 /// The line of a rail of the inputs' or the outputs' side.
 pub(crate) fn write_rail<K: Sink>(out: &mut K, side: &[u8], rail: Rail) -> Result<(), Failed>
-    ensures { WritesText (K.taken out.old) (K.taken out.new) (K.faults out.old) (K.faults out.new) result (line_of (rail_words side.now rail)) }
+    ensures written { WritesText (K.taken out.old) (K.taken out.new) (K.faults out.old) (K.faults out.new) result (line_of (rail_words side.now rail)) }
+    ensures unflushed { IsFalse (K.flushed out.old) → IsFalse (K.flushed out.new) }
 {
     let words = [
         Word::Number(rail.port),
@@ -55,7 +59,8 @@ pub(crate) fn write_rail<K: Sink>(out: &mut K, side: &[u8], rail: Rail) -> Resul
 
 /// The line of a cell.
 pub(crate) fn write_cell<K: Sink>(out: &mut K, cell: Cell) -> Result<(), Failed>
-    ensures { WritesText (K.taken out.old) (K.taken out.new) (K.faults out.old) (K.faults out.new) result (line_of (cell_words cell)) }
+    ensures written { WritesText (K.taken out.old) (K.taken out.new) (K.faults out.old) (K.faults out.new) result (line_of (cell_words cell)) }
+    ensures unflushed { IsFalse (K.flushed out.old) → IsFalse (K.flushed out.new) }
 {
     match cell {
         Cell::La { a, b, out: driven } => write_line(
@@ -100,7 +105,8 @@ pub(crate) fn write_name<K: Sink>(
     side: &[u8],
     named: &(u32, Name),
 ) -> Result<(), Failed>
-    ensures { WritesText (K.taken out.old) (K.taken out.new) (K.faults out.old) (K.faults out.new) result (line_of (name_words side.now named.now)) }
+    ensures written { WritesText (K.taken out.old) (K.taken out.new) (K.faults out.old) (K.faults out.new) result (line_of (name_words side.now named.now)) }
+    ensures unflushed { IsFalse (K.flushed out.old) → IsFalse (K.flushed out.new) }
 {
     let (port, name) = named;
     write_line(out, side, &[Word::Number(*port), Word::Text(name.bytes())])

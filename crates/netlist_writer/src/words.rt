@@ -1,6 +1,6 @@
 //! The words of a line, and the bytes that each is written as.
 
-ghost use Rattle.std.specs.Prelude.{◌≡◌, decimal};
+ghost use Rattle.std.specs.Prelude.{◌≡◌, IsFalse, decimal};
 ghost use Rattle.byte_ports.specs.Writing.{WritesText};
 ghost use Rattle.cell_netlist.specs.Text.{bit_word as bit_text, output_word as output_text, role_word as role_text, sign_word as sign_text};
 ghost use Rattle.netlist_writer.specs.Texts.{word_text};
@@ -62,7 +62,8 @@ pub(crate) fn output_word(wire: Option<WireId>) -> Word<'static>
 }
 
 pub(crate) fn write_word<K: Sink>(out: &mut K, word: Word<'_>) -> Result<(), Failed>
-    ensures { WritesText (K.taken out.old) (K.taken out.new) (K.faults out.old) (K.faults out.new) result (word_text word.entry) }
+    ensures written { WritesText (K.taken out.old) (K.taken out.new) (K.faults out.old) (K.faults out.new) result (word_text word.entry) }
+    ensures unflushed { IsFalse (K.flushed out.old) → IsFalse (K.flushed out.new) }
 {
     match word {
         Word::Text(text) => write_all(out, text),

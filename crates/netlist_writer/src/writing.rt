@@ -1,6 +1,6 @@
 //! The sections of a netlist's text, and the text.
 
-ghost use Rattle.std.specs.Prelude.{IsFalse, OnOk};
+ghost use Rattle.std.specs.Prelude.{IsFalse};
 ghost use Rattle.std.specs.List.{flat_map};
 ghost use Rattle.byte_ports.specs.Writing.{WritesText};
 ghost use Rattle.cell_netlist.specs.Text.{text_of};
@@ -13,7 +13,8 @@ use cell_netlist::{Cell, Netlist, Rail};
 use pulse_ids::Name;
 
 fn write_rails<K: Sink>(out: &mut K, side: &[u8], rails: &[Rail]) -> Result<(), Failed>
-    ensures { WritesText (K.taken out.old) (K.taken out.new) (K.faults out.old) (K.faults out.new) result (flat_map (rail_line side.now) rails.now) }
+    ensures written { WritesText (K.taken out.old) (K.taken out.new) (K.faults out.old) (K.faults out.new) result (flat_map (rail_line side.now) rails.now) }
+    ensures unflushed { IsFalse (K.flushed out.old) → IsFalse (K.flushed out.new) }
 {
     for rail in rails {
         write_rail(out, side, *rail)?;
@@ -22,7 +23,8 @@ fn write_rails<K: Sink>(out: &mut K, side: &[u8], rails: &[Rail]) -> Result<(), 
 }
 
 fn write_cells<K: Sink>(out: &mut K, cells: &[Cell]) -> Result<(), Failed>
-    ensures { WritesText (K.taken out.old) (K.taken out.new) (K.faults out.old) (K.faults out.new) result (flat_map cell_line cells.now) }
+    ensures written { WritesText (K.taken out.old) (K.taken out.new) (K.faults out.old) (K.faults out.new) result (flat_map cell_line cells.now) }
+    ensures unflushed { IsFalse (K.flushed out.old) → IsFalse (K.flushed out.new) }
 {
     for cell in cells {
         write_cell(out, *cell)?;
@@ -31,7 +33,8 @@ fn write_cells<K: Sink>(out: &mut K, cells: &[Cell]) -> Result<(), Failed>
 }
 
 fn write_names<K: Sink>(out: &mut K, side: &[u8], names: &[(u32, Name)]) -> Result<(), Failed>
-    ensures { WritesText (K.taken out.old) (K.taken out.new) (K.faults out.old) (K.faults out.new) result (flat_map (name_line side.now) names.now) }
+    ensures written { WritesText (K.taken out.old) (K.taken out.new) (K.faults out.old) (K.faults out.new) result (flat_map (name_line side.now) names.now) }
+    ensures unflushed { IsFalse (K.flushed out.old) → IsFalse (K.flushed out.new) }
 {
     for named in names {
         write_name(out, side, named)?;
@@ -41,7 +44,8 @@ fn write_names<K: Sink>(out: &mut K, side: &[u8], names: &[(u32, Name)]) -> Resu
 
 /// The first two lines.
 fn write_head<K: Sink>(net: &Netlist, out: &mut K) -> Result<(), Failed>
-    ensures { WritesText (K.taken out.old) (K.taken out.new) (K.faults out.old) (K.faults out.new) result (head_text net.now) }
+    ensures written { WritesText (K.taken out.old) (K.taken out.new) (K.faults out.old) (K.faults out.new) result (head_text net.now) }
+    ensures unflushed { IsFalse (K.flushed out.new) }
 {
     write_line(out, b"xsfq", &[Word::Text(b"1")])?;
     write_line(
@@ -53,7 +57,8 @@ fn write_head<K: Sink>(net: &Netlist, out: &mut K) -> Result<(), Failed>
 
 /// The lines of rails and cells.
 fn write_circuit<K: Sink>(net: &Netlist, out: &mut K) -> Result<(), Failed>
-    ensures { WritesText (K.taken out.old) (K.taken out.new) (K.faults out.old) (K.faults out.new) result (circuit_text net.now) }
+    ensures written { WritesText (K.taken out.old) (K.taken out.new) (K.faults out.old) (K.faults out.new) result (circuit_text net.now) }
+    ensures unflushed { IsFalse (K.flushed out.old) → IsFalse (K.flushed out.new) }
 {
     write_rails(out, b"input", net.input_rails().items())?;
     write_cells(out, net.cells().items())?;
@@ -62,7 +67,8 @@ fn write_circuit<K: Sink>(net: &Netlist, out: &mut K) -> Result<(), Failed>
 
 /// The lines of names.
 fn write_both_names<K: Sink>(net: &Netlist, out: &mut K) -> Result<(), Failed>
-    ensures { WritesText (K.taken out.old) (K.taken out.new) (K.faults out.old) (K.faults out.new) result (names_text net.now) }
+    ensures written { WritesText (K.taken out.old) (K.taken out.new) (K.faults out.old) (K.faults out.new) result (names_text net.now) }
+    ensures unflushed { IsFalse (K.flushed out.old) → IsFalse (K.flushed out.new) }
 {
     write_names(out, b"iname", net.input_names())?;
     write_names(out, b"oname", net.output_names())
@@ -75,7 +81,7 @@ fn write_both_names<K: Sink>(net: &Netlist, out: &mut K) -> Result<(), Failed>
 /// Errors: `Failed` only where the sink's count of faults rose. Then a prefix of the text was taken.
 pub fn write_netlist<K: Sink>(net: &Netlist, out: &mut K) -> Result<(), Failed>
     ensures written { WritesText (K.taken out.old) (K.taken out.new) (K.faults out.old) (K.faults out.new) result (text_of net.now) }
-    ensures unflushed { OnOk result (IsFalse (K.flushed out.new)) }
+    ensures unflushed { IsFalse (K.flushed out.new) }
 {
     write_head(net, out)?;
     write_circuit(net, out)?;

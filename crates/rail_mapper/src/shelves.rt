@@ -11,8 +11,8 @@ use std::marker::Model;
 /// Where the leaves of a rail stand in the table: from the first that is not taken up to an end.
 #[derive(Clone, Copy, Debug)]
 pub(crate) struct Shelf {
-    pub(crate) first: u32,
-    pub(crate) end: u32,
+    pub(crate) first: usize,
+    pub(crate) end: usize,
 }
 
 /// The leaves of each rail that are not taken yet, each rail's in a row of one table. A value of this type is the
@@ -51,20 +51,19 @@ impl Shelves {
         ensures { TakesFirst rail result.number self.old self.new }
     {
         let shelf = self.shelves[rail as usize];
-        let wire = self.wires[shelf.first as usize];
+        let wire = self.wires[shelf.first];
         self.shelves[rail as usize] = without_first(shelf);
         wire
     }
 
-    /// Gives a rail these leaves and no other. It takes time in the number of leaves. A table of 2^32 leaves is refused
-    /// its memory.
+    /// Gives a rail these leaves and no other. It takes time in the number of leaves.
     pub(crate) fn put(&mut self, rail: u32, leaves: &Leaves) -> Result<(), NoMemory>
         requires { rail < length self.old }
         ensures { OnOk result (self.new ≡ slice_set self.old rail leaves.now) }
     {
-        let first = place_behind(&self.wires)?;
+        let first = self.wires.len();
         append(&mut self.wires, leaves)?;
-        let end = place_behind(&self.wires)?;
+        let end = self.wires.len();
         self.shelves[rail as usize] = Shelf { first, end };
         Ok(())
     }
@@ -91,16 +90,6 @@ fn bare_shelves(alloc: Global, count: u32) -> Result<Vec<Shelf>, NoMemory>
         shelves.push(Shelf { first: 0, end: 0 })?;
     }
     Ok(shelves)
-}
-
-// The place behind a table of fewer than 2^32 leaves.
-fn place_behind(wires: &Vec<WireId>) -> Result<u32, NoMemory>
-    ensures { IfOk result (λ place. place ≡ length wires.now.items) }
-{
-    match u32::try_from(wires.len()) {
-        Ok(place) => Ok(place),
-        Err(_) => Err(NoMemory),
-    }
 }
 
 // Adds the leaves at the end of the table.

@@ -15,9 +15,9 @@ pub returns-in_err-write_words-clause-written : goal.returns-in_err-write_words-
 returns-in_err-write_words-clause-written g c = rw (line_in_pieces c.args.first.now c.args.words.now)
     (wrote_second _ _ _ _ _ _ _ _ c.args.first.now (flat_map spaced c.args.words.now ++ 10 ∷ []) (ok_so c.in_ok-write_all.was) c.write_all.ensures.written
     (wrote_first _ _ _ _ _ _ (flat_map spaced c.args.words.now) (10 ∷ [])
-    (err_so c.in_err-write_words.was) c.from_residual-in_err-write_words.ensures.0 c.write_words.ensures))
+    (err_so c.in_err-write_words.was) c.from_residual-in_err-write_words.ensures.0 c.write_words.ensures.written))
 
 pub returns-clause-written : goal.returns-clause-written
 returns-clause-written g c = rw (line_in_pieces c.args.first.now c.args.words.now)
     (wrote_second _ _ _ _ _ _ _ _ c.args.first.now (flat_map spaced c.args.words.now ++ 10 ∷ []) (ok_so c.in_ok-write_all.was) c.write_all.ensures.written
-    (wrote_second _ _ _ _ _ _ _ _ (flat_map spaced c.args.words.now) (10 ∷ []) (ok_so c.in_ok-write_words.was) c.write_words.ensures c.write_all-2.ensures.written))
+    (wrote_second _ _ _ _ _ _ _ _ (flat_map spaced c.args.words.now) (10 ∷ []) (ok_so c.in_ok-write_words.was) c.write_words.ensures.written c.write_all-2.ensures.written))

@@ -1,6 +1,6 @@
 //! The lines of refused netlist texts and of unsound netlists.
 
-ghost use Rattle.std.specs.Prelude.{◌≡◌, ◌++◌, decimal};
+ghost use Rattle.std.specs.Prelude.{◌≡◌, ◌++◌, IsFalse, decimal};
 ghost use Rattle.byte_ports.specs.Writing.{WritesText};
 ghost use Rattle.run_outcomes.specs.Notes.{net_line, rule_text, unsound_line};
 
@@ -13,7 +13,8 @@ use text_pieces::{Piece, write_numbered, write_pieces};
 
 /// Writes the line of a refused netlist text.
 pub(crate) fn write_net_refusal<E: Sink>(refusal: NetRefusal, notes: &mut E) -> Result<(), Failed>
-    ensures { WritesText (E.taken notes.old) (E.taken notes.new) (E.faults notes.old) (E.faults notes.new) result (net_line refusal) }
+    ensures written { WritesText (E.taken notes.old) (E.taken notes.new) (E.faults notes.old) (E.faults notes.new) result (net_line refusal) }
+    ensures unflushed { IsFalse (E.flushed notes.new) }
 {
     match refusal {
         NetRefusal::BadLine(line) => write_numbered(
@@ -30,7 +31,8 @@ pub(crate) fn write_net_refusal<E: Sink>(refusal: NetRefusal, notes: &mut E) -> 
 
 /// Writes the line of an unsound netlist.
 pub(crate) fn write_unsound<E: Sink>(unsound: Unsound, notes: &mut E) -> Result<(), Failed>
-    ensures { WritesText (E.taken notes.old) (E.taken notes.new) (E.faults notes.old) (E.faults notes.new) result (unsound_line unsound) }
+    ensures written { WritesText (E.taken notes.old) (E.taken notes.new) (E.faults notes.old) (E.faults notes.new) result (unsound_line unsound) }
+    ensures unflushed { IsFalse (E.flushed notes.new) }
 {
     let (before, number, after) = rule_parts(unsound);
     let pieces = [

@@ -1,7 +1,8 @@
 //! The line of an outcome, written without memory.
 
-ghost use Rattle.std.specs.Prelude.{◌≡◌, ◌++◌};
+ghost use Rattle.std.specs.Prelude.{◌≡◌, ◌++◌, IsFalse};
 ghost use Rattle.byte_ports.specs.Writing.{WritesText};
+ghost use Rattle.run_outcomes.specs.declared.outcomes.Outcome.TheVariants as outcomes;
 ghost use Rattle.run_outcomes.specs.Notes.{aiger_text, blif_line, blif_text, fault_line, limit_line, note_of, place_text, quantity_text};
 ghost use Rattle.text_pieces.specs.Pieces.{piece_text};
 
@@ -15,13 +16,16 @@ use pulse_ids::Quantity;
 use source_machine::Place;
 use text_pieces::{Piece, write_pieces};
 
-/// Writes the line of an outcome with its line feed, and nothing for `Done`. It takes no memory, and does not flush.
+/// Writes the line of an outcome with its line feed, after which `notes` isn't flushed; for `Done` nothing, and `notes`
+/// stays as it was. It takes no memory.
 ///
 /// # Errors
 ///
 /// `Failed` where a write failed: the sink took a prefix of the line.
 pub fn write_outcome_line<E: Sink>(outcome: &Outcome, notes: &mut E) -> Result<(), Failed>
-    ensures { WritesText (E.taken notes.old) (E.taken notes.new) (E.faults notes.old) (E.faults notes.new) result (note_of outcome.now) }
+    ensures written { WritesText (E.taken notes.old) (E.taken notes.new) (E.faults notes.old) (E.faults notes.new) result (note_of outcome.now) }
+    ensures unflushed { (outcome.now ≡ outcomes.Done → ⊥) → IsFalse (E.flushed notes.new) }
+    ensures untouched { outcome.now ≡ outcomes.Done → notes.new ≡ notes.old }
 {
     match outcome {
         Outcome::Done => Ok(()),
@@ -48,7 +52,8 @@ pub fn write_outcome_line<E: Sink>(outcome: &Outcome, notes: &mut E) -> Result<(
 
 /// Writes the line of a limit.
 pub(crate) fn write_limit<E: Sink>(quantity: Quantity, notes: &mut E) -> Result<(), Failed>
-    ensures { WritesText (E.taken notes.old) (E.taken notes.new) (E.faults notes.old) (E.faults notes.new) result (limit_line quantity) }
+    ensures written { WritesText (E.taken notes.old) (E.taken notes.new) (E.faults notes.old) (E.faults notes.new) result (limit_line quantity) }
+    ensures unflushed { IsFalse (E.flushed notes.new) }
 {
     let pieces = [
         Piece::Text(b"limit: more than "),
@@ -82,7 +87,8 @@ fn quantity_piece(quantity: Quantity) -> Piece<'static>
 
 /// Writes the line of a fault of an AIGER source.
 fn write_fault<E: Sink>(fault: &AigerFault, notes: &mut E) -> Result<(), Failed>
-    ensures { WritesText (E.taken notes.old) (E.taken notes.new) (E.faults notes.old) (E.faults notes.new) result (fault_line fault.now) }
+    ensures written { WritesText (E.taken notes.old) (E.taken notes.new) (E.faults notes.old) (E.faults notes.new) result (fault_line fault.now) }
+    ensures unflushed { IsFalse (E.flushed notes.new) }
 {
     let (what, which) = cause_pieces(&fault.cause);
     let (place, number, colon) = place_pieces(fault.place);
@@ -100,7 +106,8 @@ fn write_fault<E: Sink>(fault: &AigerFault, notes: &mut E) -> Result<(), Failed>
 
 /// Writes the line of a fault of a BLIF source.
 fn write_blif<E: Sink>(fault: &BlifFault, notes: &mut E) -> Result<(), Failed>
-    ensures { WritesText (E.taken notes.old) (E.taken notes.new) (E.faults notes.old) (E.faults notes.new) result (blif_line fault.now) }
+    ensures written { WritesText (E.taken notes.old) (E.taken notes.new) (E.faults notes.old) (E.faults notes.new) result (blif_line fault.now) }
+    ensures unflushed { IsFalse (E.flushed notes.new) }
 {
     let (what, which) = blif_pieces(&fault.cause);
     let (place, number, colon) = place_pieces(fault.place);

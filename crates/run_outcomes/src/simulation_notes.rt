@@ -1,6 +1,6 @@
 //! The lines of refused texts of vectors and of scripts that don't fit.
 
-ghost use Rattle.std.specs.Prelude.{◌≡◌, ◌++◌};
+ghost use Rattle.std.specs.Prelude.{◌≡◌, ◌++◌, IsFalse};
 ghost use Rattle.byte_ports.specs.Writing.{WritesText};
 ghost use Rattle.run_outcomes.specs.Notes.{phase_text, script_line, script_text, vector_line};
 ghost use Rattle.text_pieces.specs.Pieces.{piece_text};
@@ -17,7 +17,8 @@ pub(crate) fn write_vector_refusal<E: Sink>(
     refusal: VectorRefusal,
     notes: &mut E,
 ) -> Result<(), Failed>
-    ensures { WritesText (E.taken notes.old) (E.taken notes.new) (E.faults notes.old) (E.faults notes.new) result (vector_line refusal) }
+    ensures written { WritesText (E.taken notes.old) (E.taken notes.new) (E.faults notes.old) (E.faults notes.new) result (vector_line refusal) }
+    ensures unflushed { IsFalse (E.flushed notes.new) }
 {
     match refusal {
         VectorRefusal::BadLine(line) => write_numbered(
@@ -39,7 +40,8 @@ pub(crate) fn write_script_fault<E: Sink>(
     fault: ScriptFault,
     notes: &mut E,
 ) -> Result<(), Failed>
-    ensures { WritesText (E.taken notes.old) (E.taken notes.new) (E.faults notes.old) (E.faults notes.new) result (script_line cycle phase fault) }
+    ensures written { WritesText (E.taken notes.old) (E.taken notes.new) (E.faults notes.old) (E.faults notes.new) result (script_line cycle phase fault) }
+    ensures unflushed { IsFalse (E.flushed notes.new) }
 {
     let (before, number, between, last) = fault_pieces(fault);
     let pieces = [

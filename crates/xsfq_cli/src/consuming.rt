@@ -44,8 +44,7 @@ pub(crate) trait Consumer {
     ghost limited: { (text : List ℕ) → most < length text → shows text ≡ None → ⊥ };
 }
 
-/// Feeds a reader until the input ends, fails or is refused. It alone reads: at most 4,096 bytes a call, and never
-/// again after the input failed or its bytes showed a refusal.
+/// Feeds a reader until the input ends, fails or is refused. It alone reads.
 fn take_all<S: Source, C: Consumer>(input: &mut S, reader: &mut C) -> Result<(), Outcome>
     requires fresh { C.reads [] reader.old }
     requires early { IsEarly C.shows C.judges }

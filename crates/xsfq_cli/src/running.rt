@@ -60,8 +60,7 @@ fn order_carried_out<S: Source, K: Sink>(
 /// for it, and writes which output rails pulse in each phase; `workload` reads nothing, and writes the netlist of a
 /// counter and what it costs. All memory is taken before the first write, and the output
 /// is flushed before `Done` and before a script's fault. For every outcome but `Done`, one line goes to `notes`, and
-/// nothing that happens there changes the outcome. Bytes are read at most 4,096 a call; a port that failed is not
-/// called again.
+/// nothing that happens there changes the outcome.
 pub fn run<S: Source, K: Sink, E: Sink>(
     alloc: Global,
     words: &[String],

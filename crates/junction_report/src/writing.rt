@@ -1,6 +1,6 @@
 //! The text of a report, line by line, to any sink, without memory.
 
-ghost use Rattle.std.specs.Prelude.{◌≡◌, IsFalse, OnOk, decimal};
+ghost use Rattle.std.specs.Prelude.{◌≡◌, ◌<◌, IsFalse, decimal, length};
 ghost use Rattle.std.specs.List.{flat_map};
 ghost use Rattle.byte_ports.specs.Writing.{WritesText};
 ghost use Rattle.junction_report.specs.Texts.{parts_of, line_text, sizes_text, path_line, rails_text, report_text, spaced};
@@ -25,7 +25,8 @@ fn numbered(word: &[u8], number: u32) -> Line<'_>
 
 /// One line: the word, a space, the number and LF.
 fn write_line<K: Sink>(out: &mut K, line: Line<'_>) -> Result<(), Failed>
-    ensures { WritesText (K.taken out.old) (K.taken out.new) (K.faults out.old) (K.faults out.new) result (line_text line.entry) }
+    ensures written { WritesText (K.taken out.old) (K.taken out.new) (K.faults out.old) (K.faults out.new) result (line_text line.entry) }
+    ensures unflushed { IsFalse (K.flushed out.new) }
 {
     let pieces = [
         Piece::Text(line.word),
@@ -37,7 +38,8 @@ fn write_line<K: Sink>(out: &mut K, line: Line<'_>) -> Result<(), Failed>
 }
 
 fn write_lines<K: Sink>(out: &mut K, lines: &[Line<'_>]) -> Result<(), Failed>
-    ensures { WritesText (K.taken out.old) (K.taken out.new) (K.faults out.old) (K.faults out.new) result (flat_map line_text lines.entry.now) }
+    ensures written { WritesText (K.taken out.old) (K.taken out.new) (K.faults out.old) (K.faults out.new) result (flat_map line_text lines.entry.now) }
+    ensures unflushed { 0 < length lines.entry.now → IsFalse (K.flushed out.new) }
 {
     for line in lines {
         write_line(out, *line)?;
@@ -47,7 +49,8 @@ fn write_lines<K: Sink>(out: &mut K, lines: &[Line<'_>]) -> Result<(), Failed>
 
 /// A space and the number of a cell.
 fn write_cell<K: Sink>(out: &mut K, cell: CellId) -> Result<(), Failed>
-    ensures { WritesText (K.taken out.old) (K.taken out.new) (K.faults out.old) (K.faults out.new) result (spaced cell.number) }
+    ensures written { WritesText (K.taken out.old) (K.taken out.new) (K.faults out.old) (K.faults out.new) result (spaced cell.number) }
+    ensures unflushed { IsFalse (K.flushed out.new) }
 {
     write_pieces(
         &[Piece::Text(b" "), Piece::Number(cell.number() as u64)],
@@ -56,7 +59,8 @@ fn write_cell<K: Sink>(out: &mut K, cell: CellId) -> Result<(), Failed>
 }
 
 fn write_cells<K: Sink>(out: &mut K, cells: &[CellId]) -> Result<(), Failed>
-    ensures { WritesText (K.taken out.old) (K.taken out.new) (K.faults out.old) (K.faults out.new) result (flat_map (λ cell. spaced cell.number) cells.now) }
+    ensures written { WritesText (K.taken out.old) (K.taken out.new) (K.faults out.old) (K.faults out.new) result (flat_map (λ cell. spaced cell.number) cells.now) }
+    ensures unflushed { IsFalse (K.flushed out.old) → IsFalse (K.flushed out.new) }
 {
     for cell in cells {
         write_cell(out, *cell)?;
@@ -67,7 +71,7 @@ fn write_cells<K: Sink>(out: &mut K, cells: &[CellId]) -> Result<(), Failed>
 /// The line of the path.
 fn write_path<K: Sink>(report: &Report, out: &mut K) -> Result<(), Failed>
     ensures written { WritesText (K.taken out.old) (K.taken out.new) (K.faults out.old) (K.faults out.new) result (path_line report.now) }
-    ensures unflushed { OnOk result (IsFalse (K.flushed out.new)) }
+    ensures unflushed { IsFalse (K.flushed out.new) }
 {
     write_all(out, b"path")?;
     write_cells(out, report.path.cells())?;
@@ -79,7 +83,8 @@ fn write_path<K: Sink>(report: &Report, out: &mut K) -> Result<(), Failed>
 ///
 /// Errors: `Failed` only where the sink's count of faults rose. Then a prefix of the lines was taken.
 pub fn write_sizes<K: Sink>(report: &Report, out: &mut K) -> Result<(), Failed>
-    ensures { WritesText (K.taken out.old) (K.taken out.new) (K.faults out.old) (K.faults out.new) result (sizes_text report.now) }
+    ensures written { WritesText (K.taken out.old) (K.taken out.new) (K.faults out.old) (K.faults out.new) result (sizes_text report.now) }
+    ensures unflushed { IsFalse (K.flushed out.new) }
 {
     write_lines(
         out,
@@ -102,7 +107,7 @@ pub fn write_sizes<K: Sink>(report: &Report, out: &mut K) -> Result<(), Failed>
 /// Errors: `Failed` only where the sink's count of faults rose. Then a prefix of the text was taken.
 pub fn write_report<K: Sink>(report: &Report, out: &mut K) -> Result<(), Failed>
     ensures written { WritesText (K.taken out.old) (K.taken out.new) (K.faults out.old) (K.faults out.new) result (report_text report.now) }
-    ensures unflushed { OnOk result (IsFalse (K.flushed out.new)) }
+    ensures unflushed { IsFalse (K.flushed out.new) }
 {
     write_rails(report, out)?;
     write_sizes(report, out)?;
@@ -110,7 +115,8 @@ pub fn write_report<K: Sink>(report: &Report, out: &mut K) -> Result<(), Failed>
 }
 
 fn write_rails<K: Sink>(report: &Report, out: &mut K) -> Result<(), Failed>
-    ensures { WritesText (K.taken out.old) (K.taken out.new) (K.faults out.old) (K.faults out.new) result (rails_text report.now) }
+    ensures written { WritesText (K.taken out.old) (K.taken out.new) (K.faults out.old) (K.faults out.new) result (rails_text report.now) }
+    ensures unflushed { IsFalse (K.flushed out.new) }
 {
     write_lines(
         out,

@@ -16,10 +16,10 @@ returns-in_err-write_cells-clause-written g c = rw (line_in_pieces (codes "path"
     (wrote_second _ _ _ _ _ _ _ _ (codes "path") (flat_map (λ cell. spaced cell.number) c.args.report.now.path ++ 10 ∷ []) (ok_so c.in_ok-write_all.was) c.write_all.ensures.written
     (wrote_first _ _ _ _ _ _ (flat_map (λ cell. spaced cell.number) c.args.report.now.path) (10 ∷ [])
     (err_so c.in_err-write_cells.was) c.from_residual-in_err-write_cells.ensures.0
-    (written_of (λ cell. spaced cell.number) _ _ _ _ _ _ _ c.cells.ensures c.write_cells.ensures)))
+    (written_of (λ cell. spaced cell.number) _ _ _ _ _ _ _ c.cells.ensures c.write_cells.ensures.written)))
 
 pub returns-clause-written : goal.returns-clause-written
 returns-clause-written g c = rw (line_in_pieces (codes "path") c.args.report.now.path)
     (wrote_second _ _ _ _ _ _ _ _ (codes "path") (flat_map (λ cell. spaced cell.number) c.args.report.now.path ++ 10 ∷ []) (ok_so c.in_ok-write_all.was) c.write_all.ensures.written
     (wrote_second _ _ _ _ _ _ _ _ (flat_map (λ cell. spaced cell.number) c.args.report.now.path) (10 ∷ []) (ok_so c.in_ok-write_cells.was)
-    (written_of (λ cell. spaced cell.number) _ _ _ _ _ _ _ c.cells.ensures c.write_cells.ensures) c.write_all-2.ensures.written))
+    (written_of (λ cell. spaced cell.number) _ _ _ _ _ _ _ c.cells.ensures c.write_cells.ensures.written) c.write_all-2.ensures.written))

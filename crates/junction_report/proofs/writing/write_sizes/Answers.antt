@@ -6,8 +6,8 @@ use Rattle.junction_report.specs.Texts.{parts_of, sizes_of}
 use Rattle.junction_report.proofs.ReportLines.{lines_are}
 use Rattle.junction_report.proofs.writing.write_sizes.Goals as goal
 
-pub returns : goal.returns
-returns g c =
+pub returns-clause-written : goal.returns-clause-written
+returns-clause-written g c =
     let e1 = c.numbered.ensures in
     let e2 = c.numbered-2.ensures in
     let e3 = c.numbered-3.ensures in
@@ -20,4 +20,4 @@ returns g c =
     ∷ c.numbered-5.result ∷ c.numbered-6.result ∷ c.numbered-7.result ∷ c.numbered-8.result ∷ [] in
     let parts : map parts_of lines ≡ sizes_of c.args.report.now = cc in
     subst (λ l. WritesText (g.K.Sink.taken c.args.out.now) (g.K.Sink.taken c.write_lines.new.out) (g.K.Sink.faults c.args.out.now) (g.K.Sink.faults c.write_lines.new.out)
-    c.write_lines.result l) (lines_are lines (sizes_of c.args.report.now) parts) c.write_lines.ensures
+    c.write_lines.result l) (lines_are lines (sizes_of c.args.report.now) parts) c.write_lines.ensures.written

@@ -37,3 +37,5 @@ pub mod RunExistence
 pub mod RunAgreement
 pub mod CallerLemmas
 pub mod MoreLines
+pub mod RootsInRuns
+pub mod UpsetCells

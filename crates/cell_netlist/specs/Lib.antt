@@ -29,4 +29,6 @@ pub mod PlaceCodes
 pub mod PlaceTables
 pub mod Wired
 pub mod WireLaws
+pub mod RootBits
+pub mod Upsets
 pub mod MoreLines

@@ -81,6 +81,19 @@ IsReaderOf (readers_of.From id) c = id.number ≡ c
 IsReaderOf (readers_of.Feed id) c = id.number ≡ c
 IsReaderOf (readers_of.Output id) c = ⊥
 
+-- the cell of the first of these readers, and 0 where that is an output rail or there is none
+abbrev pub first_cell : List Reader → ℕ
+first_cell [] = 0
+first_cell (readers_of.A id ∷ rest) = id.number
+first_cell (readers_of.B id ∷ rest) = id.number
+first_cell (readers_of.From id ∷ rest) = id.number
+first_cell (readers_of.Feed id ∷ rest) = id.number
+first_cell (readers_of.Output id ∷ rest) = 0
+
+-- the cell that reads a wire of one reader, and 0 where that is an output rail
+abbrev pub reading_cell : PlainNetlist → ℕ → ℕ
+reading_cell net wire = first_cell (readers net wire)
+
 -- the wire on an output of a cell, where the cell has that output and it is used
 abbrev pub output_at : Cell → Driver → Option WireId
 output_at (cells.La a b out) (drivers_of.Out id) = Some out

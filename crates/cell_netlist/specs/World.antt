@@ -1,5 +1,5 @@
 -- The world of pulses: its state, its start, the opening of a phase and the delivery of a pulse.
-use Rattle.std.specs.Prelude.{◌≡◌, ◌+◌, ◌-◌, ℕ, Bool, false, not, Option, Some, None, List, [], ◌∷◌, ◌++◌, map, option_map, unwrap_or, if◌then◌else◌, ◌==◌}
+use Rattle.std.specs.Prelude.{◌≡◌, ◌+◌, ◌-◌, ℕ, Bool, false, not, Option, Some, None, List, [], ◌∷◌, ◌++◌, map, option_map, unwrap_or, slice_get, if◌then◌else◌, ◌==◌}
 use Rattle.pulse_ids.specs.declared.literals.Sign.{Sign}
 use Rattle.pulse_ids.specs.declared.literals.Sign.TheVariants.{Pos, Neg}
 use Rattle.cell_netlist.specs.declared.kinds.CellState.{CellState}
@@ -155,6 +155,15 @@ moved net state wire (Some reacted) = Delivered (record {
 -- one pending pulse of a wire is delivered
 abbrev pub deliver : PlainNetlist → State → ℕ → Outcome
 deliver net state wire = if state.pending wire == 0 then NotPending else moved net state wire (reactions net.cells state.cell_states wire)
+
+-- the cell that an upset is of: a pulse is pending on the wire, and in this cell's state its table has no line for it
+pub record UpsetsCell (net : PlainNetlist) (state : State) (wire c : ℕ) : Type 0 where
+  pub pending : state.pending wire ≡ 0 → ⊥
+  pub cell : Cell
+  pub at : slice_get net.cells c ≡ Some cell
+  pub cell_state : CellState
+  pub state_at : slice_get state.cell_states c ≡ Some cell_state
+  pub no_line : reaction cell cell_state wire ≡ None
 
 -- every LA and FA rests
 abbrev pub IsAtRest : State → Type 0

@@ -4,6 +4,7 @@ ghost use Rattle.cell_netlist.specs.Decisions.{DecisionsOfRulesAreRight, SoundDe
 ghost use Rattle.cell_netlist.specs.Refused.{SoundIsNotRefused, FirstRefusalsAreEqual, UnbrokenIsSound, SoundOrRefused};
 ghost use Rattle.cell_netlist.specs.LeanLaws.{UsefulIsDecided, LeanIsDecided, SoundLeanIsDecided, LeavesAreCounted, CountsOfLeavesAreEqual, LeavesAreBalanced};
 ghost use Rattle.cell_netlist.specs.LeanDecisions.{RootsAreUnique, RootsAreClimbed, ClimbsEndAtRoots, LeanDecisionIsRight};
+ghost use Rattle.cell_netlist.specs.RootBits.{WiresCarryRootBits};
 ghost use Rattle.cell_netlist.specs.Text.{TextsAreNoPrefixes};
 ghost use Rattle.cell_netlist.specs.WireLaws.{NamedWiresAreBelow, DriversAreOnTheirWires, ReadersAreOnTheirWires, OutsHavePlaces, ReadsHavePlaces, DriversAreUnique, ReadersAreUnique, DrivingCellsAreUnique, ReadingCellsAreUnique, WiresAreGrounded, WiresHaveRoots, AnotherFeedLeavesRest};
 ghost use Rattle.cell_netlist.specs.MoreLines.{MoreCellsAdd, MoreInputAdds, MoreOutputAdds};
@@ -71,10 +72,12 @@ pub fn one_place_a_wire()
     ensures reading_cells { ReadingCellsAreUnique }
 {}
 
-/// Every wire of a sound netlist is grounded and has a root.
+/// Every wire of a sound netlist is grounded and has a root. In each cycle of each run by the equations a wire carries
+/// the bit of its root.
 pub fn roots_of_wires()
     ensures grounded { WiresAreGrounded }
     ensures rooted { WiresHaveRoots }
+    ensures bits { WiresCarryRootBits }
 {}
 
 /// What more cells, one more input rail and one more output rail add to a netlist, and that all else stays.

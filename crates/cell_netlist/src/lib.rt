@@ -14,6 +14,8 @@ mod place_tables;
 mod sound_nets;
 mod tables;
 mod unsound;
+mod upsets;
+mod wired_nets;
 
 pub use equations::equation_runs;
 pub use examples::examples_hold;
@@ -27,3 +29,5 @@ pub use netlists::Netlist;
 pub use sound_nets::SoundNet;
 pub use tables::{arrive, feed_bit};
 pub use unsound::{RailLine, Unsound};
+pub use upsets::upsets_of_cells;
+pub use wired_nets::WiredNet;

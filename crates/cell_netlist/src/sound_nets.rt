@@ -92,8 +92,8 @@ impl SoundNet {
     }
 }
 
-// The driving places, each written at its wire.
-fn driver_table(alloc: Global, net: &Netlist) -> Result<PlaceTable<Driver>, NoMemory>
+/// The driving places, each written at its wire.
+pub(crate) fn driver_table(alloc: Global, net: &Netlist) -> Result<PlaceTable<Driver>, NoMemory>
     ensures { IfOk result (λ table. table ≡ written (driving_places net.now) (replicate (number_of_wires net.now) (drivers_of.Input (numbered 0)))) }
 {
     let mut table = PlaceTable::filled(alloc, Driver::Input(RailId::new(0)), net.wires())?;
@@ -102,8 +102,8 @@ fn driver_table(alloc: Global, net: &Netlist) -> Result<PlaceTable<Driver>, NoMe
     Ok(table)
 }
 
-// The reading places, each written at its wire.
-fn reader_table(alloc: Global, net: &Netlist) -> Result<PlaceTable<Reader>, NoMemory>
+/// The reading places, each written at its wire.
+pub(crate) fn reader_table(alloc: Global, net: &Netlist) -> Result<PlaceTable<Reader>, NoMemory>
     ensures { IfOk result (λ table. table ≡ written (reading_places net.now) (replicate (number_of_wires net.now) (readers_of.Output (numbered 0)))) }
 {
     let mut table = PlaceTable::filled(alloc, Reader::Output(RailId::new(0)), net.wires())?;

@@ -1,9 +1,9 @@
 -- A wire carries the bit of its root.
-use Rattle.std.proofs.Common.{◌≡◌, ◌∙◌, ℕ, zero, suc, inl, inr, List, [], ◌∷◌, Bool, refl, sym, ap, subst}
+use Rattle.std.proofs.Common.{◌≡◌, ◌∙◌, ℕ, zero, suc, inl, inr, List, [], ◌∷◌, Bool, refl, sym, ap}
 use Rattle.cell_netlist.specs.declared.lines.Cell.{Cell}
 use Rattle.cell_netlist.specs.declared.lines.Cell.TheVariants.{La, Fa, Split, Droc}
-use Rattle.pulse_ids.specs.Lists.{IsIn, bit_at}
-use Rattle.cell_netlist.specs.Netlists.{PlainNetlist, Splits, HasSplitter, SplittersBelow}
+use Rattle.pulse_ids.specs.Lists.{bit_at}
+use Rattle.cell_netlist.specs.Netlists.{PlainNetlist, Splits, SplittersBelow}
 use Rattle.cell_netlist.specs.RailEquations.{LatchState, CellEquation, IsRails, IsNetRunFrom, first_state, next_state}
 use Rattle.cell_netlist.specs.NetRuns.{bits_in}
 use Rattle.cell_netlist.specs.RootBits.{WiresCarryRootBits}

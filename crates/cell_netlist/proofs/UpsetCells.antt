@@ -1,5 +1,5 @@
 -- The cell of an upset.
-use Rattle.std.proofs.Common.{◌≡◌, ◌≢◌, ◌↔◌, ◌∙◌, ◌≤◌, ◌⊎◌, ℕ, zero, suc, ◌==◌, true, false, Option, Some, None, List, [], ◌∷◌, length, slice_get, ap, sym, subst, inl, inr, arith, refl}
+use Rattle.std.proofs.Common.{◌≡◌, ◌∙◌, ◌≤◌, ◌⊎◌, ℕ, zero, suc, ◌==◌, Option, Some, None, List, [], ◌∷◌, length, slice_get, ap, sym, inl, inr, arith, refl}
 use Rattle.std.proofs.lemmas.Bool.{cases_Bool, eqb-true, eq-eqb, ne_eqb}
 use Rattle.pulse_ids.specs.Ids.{numbered}
 use Rattle.cell_netlist.specs.declared.lines.Cell.{Cell}
@@ -9,9 +9,8 @@ use Rattle.cell_netlist.specs.declared.lines.Reader.TheVariants.{A, B, From, Fee
 use Rattle.cell_netlist.specs.declared.kinds.CellState.{CellState}
 use Rattle.pulse_ids.specs.Lists.{IsIn}
 use Rattle.cell_netlist.specs.Netlists.{PlainNetlist, reads}
-use Rattle.cell_netlist.specs.Places.{readers, IsReaderOf, first_cell, reading_cell}
-use Rattle.cell_netlist.specs.Wired.{IsWired}
-use Rattle.cell_netlist.specs.World.{State, Reaction, reaction, Reactions, both, reactions, Upset, moved, deliver, UpsetsCell}
+use Rattle.cell_netlist.specs.Places.{readers, IsReaderOf, first_cell}
+use Rattle.cell_netlist.specs.World.{State, Reaction, reaction, Reactions, both, reactions, Upset, moved, deliver}
 use Rattle.cell_netlist.specs.Upsets.{UpsetsAreOfCells, ReadingCellsAreUpset}
 use Rattle.cell_netlist.proofs.PlaceLemmas.{readers-count}
 use Rattle.cell_netlist.proofs.PlacesOfWires.{reader-is, read-reader}

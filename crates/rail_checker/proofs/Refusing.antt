@@ -89,11 +89,14 @@ numbered_is id n e = ap (λ (m : ℕ). numbered m) (sym e)
 module _ (net : PlainNetlist) (rules rule : ℕ) (make : ℕ → Unsound) (next : rule ≡ rules + 1) (of_rule : IsOfRule rule make) (clear : IsClear net rules) where
   -- the lowest number at which the rule is broken gives the first refusal
   pub judged_some : (number : ℕ) → IsFirst (λ n. Breaks net (make n)) (Some number) → (unsound : Unsound) → rule_of unsound ≡ rule → number_in unsound ≡ number
-      → IsFirstUnsound net unsound
-  judged_some number lowest unsound r n = record {
-    breaks = subst (λ u. Breaks net u) (sym (of_rule unsound r ∙ ap make n)) lowest.0;
-    first = λ other breaks comes. before other breaks comes;
-  }
+      → IsFirstUnsound net unsound × (rule_of unsound ≤ rule)
+  judged_some number lowest unsound r n = (
+    record {
+      breaks = subst (λ u. Breaks net u) (sym (of_rule unsound r ∙ ap make n)) lowest.0;
+      first = λ other breaks comes. before other breaks comes;
+    },
+    omega (arith, r),
+  )
     where
       before : (other : Unsound) → Breaks net other → ComesBefore other unsound → ⊥
       before other breaks (inl lower) = clear other breaks (omega (arith, lower, r, next))

@@ -17,10 +17,10 @@ PassesAt {X} test xs place = (x : X) × (slice_get xs place ≡ Some x) × (test
 abbrev pub IsClear : PlainNetlist → ℕ → Type 0
 IsClear net rules = (other : Unsound) → Breaks net other → rule_of other ≤ rules → ⊥
 
--- the netlist breaks none of the first rules, or this is its first refusal
+-- the netlist breaks none of the first rules, or this is its first refusal, which is by one of them
 abbrev pub IsJudged : PlainNetlist → ℕ → Option Unsound → Type 0
 IsJudged net rules None = IsClear net rules
-IsJudged net rules (Some unsound) = IsFirstUnsound net unsound
+IsJudged net rules (Some unsound) = IsFirstUnsound net unsound × (rule_of unsound ≤ rules)
 
 -- the netlist is sound, or this is its first refusal
 abbrev pub IsVerdict : PlainNetlist → Option Unsound → Type 0

@@ -2,8 +2,9 @@
 
 ghost use Rattle.std.specs.Prelude.{◌≡◌, IfOk, IfErr};
 ghost use Rattle.cell_netlist.specs.Sound.{IsSound};
+ghost use Rattle.cell_netlist.specs.Wired.{IsWired};
 ghost use Rattle.rail_checker.specs.Verdicts.{IsVerdict, IsJudged, IsClear};
-ghost use Rattle.rail_checker.specs.Refused.{IsRefused};
+ghost use Rattle.rail_checker.specs.Refused.{IsRefused, IsRefusedByWires};
 
 use crate::counting::wires_unsound;
 use crate::driving_cells::driving_cells;
@@ -37,6 +38,22 @@ pub fn check(alloc: Global, net: Netlist) -> Result<SoundNet, Refused>
             Ok(sound) => Ok(sound),
             Err(back) => Err(Refused::NoMemory(back)),
         },
+        Ok(Some(unsound)) => Err(Refused::Unsound(net, unsound)),
+        Err(_) => Err(Refused::NoMemory(net)),
+    }
+}
+
+/// The netlist, where each of its wires has one driver and one reader. Else it is handed back: with the first rule of
+/// wiring that it breaks, at the lowest number, or because memory was refused. No other rule is judged.
+///
+/// It takes time linear in the lines of the netlist.
+#[tactic(auto, using(crate::proofs::Refusing::wired))]
+pub fn check_wires(alloc: Global, net: Netlist) -> Result<Netlist, Refused>
+    ensures wired { IfOk result (λ same. (same ≡ net) × IsWired net) }
+    ensures refused { IfErr result (λ refused. IsRefusedByWires net refused) }
+{
+    match wires_unsound(alloc, &net) {
+        Ok(None) => Ok(net),
         Ok(Some(unsound)) => Err(Refused::Unsound(net, unsound)),
         Err(_) => Err(Refused::NoMemory(net)),
     }

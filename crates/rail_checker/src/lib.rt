@@ -15,4 +15,5 @@ mod roles;
 mod roots;
 mod scans;
 
-pub use checking::{Refused, check};
+pub use checking::{Refused, check, check_wires};
+pub use roots::wire_roots;

@@ -9,10 +9,25 @@ ghost use Rattle.rail_checker.specs.Needs.{dependencies_of};
 ghost use Rattle.rail_checker.specs.Tables.{AreOwn, AreRoots, with_roots};
 ghost use Rattle.rail_checker.specs.Verdicts.{IsClear};
 
-use cell_netlist::{Cell, Netlist};
+use crate::driving_cells::driving_cells;
+use crate::grounding::grounding;
+use cell_netlist::{Cell, Netlist, SoundNet, one_refusal};
 use dependency_order::Order;
 use pulse_ids::{CellId, Ident, NoMemory, Row, WireId};
 use std::alloc::Global;
+
+/// For each wire of a sound netlist its root. By the law on roots a wire carries its root's bit.
+///
+/// It takes time and memory linear in the lines of the netlist, whatever their order.
+pub fn wire_roots(alloc: Global, net: &SoundNet) -> Result<Row<WireId, WireId>, NoMemory>
+    ensures { IfOk result (λ roots. AreRoots net.now roots) }
+{
+    one_refusal();
+    let net = net.net();
+    let drivers = driving_cells(alloc, net)?;
+    let order = grounding(alloc, net, drivers.as_slice())?;
+    root_table(alloc, net, drivers.as_slice(), &order)
+}
 
 /// For each wire its root. It takes each driving cell once, after the driver of what it reads.
 pub(crate) fn root_table(

@@ -13,7 +13,9 @@ pub mod SettledMoments
 pub mod DueWires
 pub mod WholeRuns
 pub mod PulsesPerCycle
+pub mod WholeCycles
 pub mod SoundExamples
+pub mod TwofoldExample
 pub mod UnsoundExamples
 pub mod QueuePlaces
 pub mod QueueMarks
@@ -22,6 +24,7 @@ pub mod PulsedGates
 pub mod PreloadedStates
 pub mod Reactions
 pub mod WorldMoments
+pub mod WirePulses
 pub mod QueueRoom
 pub mod ClockedCells
 pub mod WorldDeliveries

@@ -19,7 +19,7 @@ use Rattle.cell_netlist.proofs.CallerLemmasOnRuns.{vector-is}
 use Rattle.cell_netlist.proofs.CallerLemmasOnDrivers.{read-low, output-read, all-grounded}
 use Rattle.cell_netlist.proofs.CallerLemmasOnLinks.{IsPlain, IsFrontOn, output-plain}
 use Rattle.pulse_world.specs.EveryOrder.{OrderLaw}
-use Rattle.pulse_world.specs.RailDelivery.{rail_counts}
+use Rattle.pulse_world.specs.Delivery.{rail_counts}
 use Rattle.pulse_world.specs.DuePulses.{resting}
 use Rattle.pulse_world.proofs.Counts.{one_if-other}
 use Rattle.pulse_world.proofs.RunMoments.{Moves, moves, no_upset, counts-are, rails-at}

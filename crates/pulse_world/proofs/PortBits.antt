@@ -4,7 +4,7 @@ use Rattle.pulse_ids.specs.Lists.{bit_at}
 use Rattle.cell_netlist.specs.Netlists.{wire_of}
 use Rattle.cell_netlist.specs.World.{IsSettled, has_sign, pulses_in}
 use Rattle.cell_netlist.specs.Runs.{Stage, Moment, IsMoment}
-use Rattle.cell_netlist.specs.Delivery.{due_counts}
+use Rattle.pulse_world.specs.Delivery.{due_counts}
 use Rattle.cell_netlist.specs.NetRuns.{bits_in}
 use Rattle.cell_netlist.proofs.CallerLemmasOnSums.{map-on}
 use Rattle.pulse_ids.proofs.CallerLemmasOnCounts.{one_if}

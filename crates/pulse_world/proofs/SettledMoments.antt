@@ -9,7 +9,7 @@ use Rattle.cell_netlist.specs.Sound.{IsSound}
 use Rattle.cell_netlist.specs.NetRuns.{bits_in, latches_from}
 use Rattle.pulse_ids.proofs.CallerLemmasOnCounts.{occurrences-append}
 use Rattle.std.proofs.lemmas.Bool.{cases_lt}
-use Rattle.pulse_world.specs.RailDelivery.{DeliversRails}
+use Rattle.pulse_world.specs.Delivery.{DeliversRails}
 use Rattle.pulse_world.specs.DuePulses.{DeliversAll}
 use Rattle.pulse_world.proofs.MomentInvariant.{StageHolds, holds-at, phase-low, holds-in, order_law}
 

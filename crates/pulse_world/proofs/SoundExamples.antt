@@ -6,7 +6,7 @@ use Rattle.cell_netlist.specs.Netlists.{PlainNetlist, wire_of}
 use Rattle.cell_netlist.specs.World.{has_sign}
 use Rattle.cell_netlist.specs.RailEquations.{LatchState, IsRails, first_state, next_state, IsNetRun}
 use Rattle.cell_netlist.specs.Sound.{IsSound}
-use Rattle.cell_netlist.specs.Delivery.{Delivers}
+use Rattle.pulse_world.specs.Delivery.{Delivers}
 use Rattle.cell_netlist.specs.ExampleNetlists.{toggle, half_adder}
 use Rattle.cell_netlist.proofs.CallerLemmas.{is_sound-at}
 use Rattle.cell_netlist.specs.NetRuns.{bits_in, latches_from}

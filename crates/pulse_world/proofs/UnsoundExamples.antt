@@ -11,7 +11,7 @@ use Rattle.cell_netlist.specs.Netlists.{PlainNetlist, number_of_wires, wire_of}
 use Rattle.cell_netlist.specs.World.{has_sign, Upset, deliver}
 use Rattle.cell_netlist.specs.Runs.{Moment, IsMoment, Event}
 use Rattle.cell_netlist.specs.RailEquations.{LatchState, CellEquation, IsRails, IsNetRun}
-use Rattle.cell_netlist.specs.Delivery.{Delivers}
+use Rattle.pulse_world.specs.Delivery.{Delivers}
 use Rattle.cell_netlist.specs.ExampleNetlists.{droc, on, unused, looped}
 use Rattle.cell_netlist.specs.ExampleRefusals.{BreaksAlone}
 use Rattle.cell_netlist.proofs.CallerLemmas.{first_refusal, looped_breaks, clear_pair_breaks, phases, play, played, settles}

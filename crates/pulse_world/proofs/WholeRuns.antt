@@ -16,7 +16,7 @@ use Rattle.pulse_world.proofs.RunMoments.{moves, vector-of}
 use Rattle.pulse_world.proofs.DueWires.{follow_law}
 
 -- one way after another
-leads-joined : (net : PlainNetlist) (vectors : List (List Bool)) (events more : List Event) (first mid last : Moment) → LeadsOn net vectors events first mid
+pub leads-joined : (net : PlainNetlist) (vectors : List (List Bool)) (events more : List Event) (first mid last : Moment) → LeadsOn net vectors events first mid
     → LeadsOn net vectors more mid last → LeadsOn net vectors (more ++ events) first last
 leads-joined net vectors events [] first mid last h k = subst (LeadsOn net vectors events first) (sym k) h
 leads-joined net vectors events (event ∷ more) first mid last h (before, k, step) = (before, leads-joined net vectors events more first mid before h k, step)

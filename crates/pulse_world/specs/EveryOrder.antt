@@ -4,8 +4,7 @@ use Rattle.cell_netlist.specs.Netlists.{PlainNetlist}
 use Rattle.cell_netlist.specs.RailEquations.{IsNetRun}
 use Rattle.cell_netlist.specs.NetRuns.{OutputsCarry}
 use Rattle.cell_netlist.specs.Sound.{IsSound}
-use Rattle.cell_netlist.specs.Delivery.{Delivers}
-use Rattle.pulse_world.specs.RailDelivery.{DeliversRails}
+use Rattle.pulse_world.specs.Delivery.{Delivers, DeliversRails}
 use Rattle.pulse_world.specs.DuePulses.{FollowsRails}
 
 -- a netlist delivers the bits that its wires carry at the output rails

@@ -1,12 +1,20 @@
 -- What the law says of small netlists.
-use Rattle.std.specs.Prelude.{ℕ, zero, suc, Bool, true, false, not, ◌&&◌, List, [], ◌∷◌}
+use Rattle.std.specs.Prelude.{◌≡◌, ℕ, zero, suc, Bool, true, false, not, ◌&&◌, Some, List, [], ◌∷◌, codes}
 use Rattle.pulse_ids.specs.declared.literals.Sign.TheVariants.{Pos, Neg}
+use Rattle.cell_netlist.specs.declared.kinds.Phase.{Phase}
+use Rattle.cell_netlist.specs.declared.kinds.Phase.TheVariants.{Excite, Relax}
 use Rattle.cell_netlist.specs.declared.kinds.Role.TheVariants.{Const}
 use Rattle.pulse_ids.specs.Lists.{bit_at}
 use Rattle.cell_netlist.specs.Netlists.{PlainNetlist}
-use Rattle.cell_netlist.specs.Delivery.{Delivers}
+use Rattle.pulse_world.specs.Delivery.{Delivers}
 use Rattle.cell_netlist.specs.ExampleNetlists.{rail, on, droc, plain, toggle, half_adder}
 use Rattle.cell_netlist.specs.NetRuns.{bits_in}
+use Rattle.cell_netlist.specs.RailEquations.{IsNetRun}
+use Rattle.cell_netlist.specs.Runs.{Stage, Moment, IsMoment}
+use Rattle.cell_netlist.specs.Sound.{IsSound}
+use Rattle.cell_netlist.specs.Text.{text_of}
+use Rattle.cell_netlist.specs.World.{IsSettled}
+use Rattle.pulse_world.specs.RailPulses.{PulsesAsItsRuns}
 
 -- 1 where just one of two bits is 1
 abbrev pub exclusive_or : Bool → Bool → Bool
@@ -53,3 +61,28 @@ inverter = plain 1 1 (rail 0 Pos 0 ∷ rail 0 Neg 1 ∷ []) [] (rail 0 Pos 1 ∷
 abbrev pub InverterDelivers : Type 0
 InverterDelivers =
     (vectors : List (List Bool)) → Delivers inverter vectors (λ cycle port. not (bit_at (bits_in vectors cycle) 0))
+
+-- a netlist of which both output rails are of one port and one sign, though they are on the wires of two inputs
+abbrev pub twofold : PlainNetlist
+twofold = plain 2 1 (rail 0 Pos 0 ∷ rail 1 Pos 1 ∷ []) [] (rail 0 Pos 0 ∷ rail 0 Pos 1 ∷ [])
+
+-- the vector on which its wires differ
+abbrev pub one_zero : List (List Bool)
+one_zero = (true ∷ false ∷ []) ∷ []
+
+-- the first rail pulses in excite and the second in relax
+abbrev pub twofold_counts : Phase → List ℕ
+twofold_counts Excite = 1 ∷ 0 ∷ []
+twofold_counts Relax = 0 ∷ 1 ∷ []
+
+-- It is sound, and on that vector it delivers no bit of its port, since the rails contradict each other. But the law of every
+-- order says what its rails do: its equations have just one run on the vector, and each rail delivers its wire's bit.
+pub record TwofoldDelivers : Type 0 where
+  pub text : text_of twofold ≡ codes "xsfq 1\nports 2 1\ninput 0 p 0\ninput 1 p 1\noutput 0 p 0\noutput 0 p 1\nend\n"
+  pub sound : IsSound twofold
+  pub no_bits : (bit : ℕ → ℕ → Bool) → Delivers twofold one_zero bit → ⊥
+  pub pulses : PulsesAsItsRuns twofold
+  pub some_run : IsNetRun twofold one_zero one_zero
+  pub one_run : (run : List (List Bool)) → IsNetRun twofold one_zero run → run ≡ one_zero
+  pub counts : (moment : Moment) → IsMoment twofold one_zero moment → (stage : Stage) → moment.stage ≡ Some stage → IsSettled moment.state
+      → moment.state.counted ≡ twofold_counts stage.phase

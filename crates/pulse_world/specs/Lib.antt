@@ -1,9 +1,10 @@
-pub mod RailDelivery
+pub mod Delivery
 pub mod DuePulses
 pub mod EveryOrder
 pub mod WithoutCells
 pub mod LaterMoments
 pub mod PulsesPerCycle
+pub mod RailPulses
 pub mod Examples
 pub mod NeededRules
 pub mod PackedStates
@@ -11,3 +12,4 @@ pub mod PendingQueues
 pub mod Reacting
 pub mod Worlds
 pub mod WorldMoments
+pub mod WirePulses

@@ -9,7 +9,7 @@ use Rattle.cell_netlist.specs.Netlists.{PlainNetlist}
 use Rattle.cell_netlist.specs.World.{Upset, deliver}
 use Rattle.cell_netlist.specs.Runs.{Moment, IsMoment}
 use Rattle.cell_netlist.specs.RailEquations.{IsNetRun}
-use Rattle.cell_netlist.specs.Delivery.{Delivers}
+use Rattle.pulse_world.specs.Delivery.{Delivers}
 use Rattle.cell_netlist.specs.ExampleNetlists.{rail, la, fa, split, on, unused, droc, plain, looped}
 use Rattle.cell_netlist.specs.ExampleRefusals.{BreaksAlone}
 

@@ -1,12 +1,12 @@
 -- How many pulses each wire gets in a cycle.
-use Rattle.std.specs.Prelude.{◌≡◌, ◌<◌, ℕ, suc, Bool, true, false, Some, List, ◌++◌}
+use Rattle.std.specs.Prelude.{◌≡◌, ◌<◌, ℕ, suc, Bool, true, false, Some, List, ◌++◌, length}
 use Rattle.cell_netlist.specs.declared.kinds.Phase.TheVariants.{Excite, Relax}
 use Rattle.cell_netlist.specs.declared.lines.Rail.{Rail}
 use Rattle.cell_netlist.specs.declared.lines.Cell.{Cell}
 use Rattle.pulse_ids.specs.Lists.{IsIn, occurrences}
 use Rattle.cell_netlist.specs.Netlists.{PlainNetlist, wire_of, reads, number_of_wires, IsDroc}
 use Rattle.cell_netlist.specs.World.{IsSettled}
-use Rattle.cell_netlist.specs.Runs.{Moment, Event, IsMoment}
+use Rattle.cell_netlist.specs.Runs.{Moment, Event, IsRun, IsMoment, IsWhole}
 use Rattle.cell_netlist.specs.RailEquations.{IsNetRun, is_link, first_state}
 use Rattle.cell_netlist.specs.NetRuns.{latches_from}
 use Rattle.cell_netlist.specs.Sound.{IsSound}
@@ -22,6 +22,24 @@ pub record IsCycle (net : PlainNetlist) (vectors : List (List Bool)) (cycle : �
   pub leads : LeadsOn net vectors events excited relaxed
   pub relax : relaxed.stage ≡ Some (record { cycle = cycle; phase = Relax })
   pub relax_settled : IsSettled relaxed.state
+
+-- The run of these events, the latest first, passes through a cycle: earlier events lead to a moment at which its excite is
+-- settled, those in between to one at which its relax is, and later ones from there to the last moment.
+pub record PassesCycle (net : PlainNetlist) (vectors : List (List Bool)) (events : List Event) (last : Moment) (cycle : ℕ) : Type 0 where
+  pub excited : Moment
+  pub relaxed : Moment
+  pub is_cycle : IsCycle net vectors cycle excited relaxed
+  pub earlier : List Event
+  pub begins : IsRun net vectors earlier excited
+  pub later : List Event
+  pub ends : LeadsOn net vectors later relaxed last
+  pub parts : events ≡ later ++ (is_cycle.events ++ earlier)
+
+-- a whole run passes through the cycle of each vector
+abbrev pub WholeRunsHaveCycles : Type 0
+WholeRunsHaveCycles =
+    (net : PlainNetlist) (vectors : List (List Bool)) (events : List Event) (last : Moment) → IsRun net vectors events last → IsWhole vectors last
+    → (cycle : ℕ) → cycle < length vectors → PassesCycle net vectors events last cycle
 
 -- how often a wire was delivered in the two phases of a cycle
 abbrev pub pulses_on : ℕ → Moment → Moment → ℕ

@@ -6,8 +6,7 @@ use Rattle.cell_netlist.specs.Netlists.{PlainNetlist, wire_of}
 use Rattle.cell_netlist.specs.World.{has_sign}
 use Rattle.cell_netlist.specs.RailEquations.{IsNetRun}
 use Rattle.cell_netlist.specs.Sound.{IsSound}
-use Rattle.cell_netlist.specs.Delivery.{Delivers}
-use Rattle.pulse_world.specs.RailDelivery.{DeliversRails}
+use Rattle.pulse_world.specs.Delivery.{Delivers, DeliversRails}
 
 -- a sound netlist without cells pulses as its rail equations say
 abbrev pub OrderLawWithoutCells : Type 0

@@ -16,7 +16,7 @@ mod states;
 mod worlds;
 
 pub use examples::examples_deliver;
-pub use moments::moments_of_worlds;
+pub use moments::{moments_of_worlds, pulses_on_wires};
 pub use orders::{
     every_order, every_order_without_cells, pulses_per_cycle, rails_to_bits, whole_runs,
 };

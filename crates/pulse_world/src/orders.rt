@@ -2,7 +2,8 @@
 
 ghost use Rattle.pulse_world.specs.EveryOrder.{RailsToBits, OrderLaw, BitLaw, FollowLaw};
 ghost use Rattle.pulse_world.specs.LaterMoments.{MomentsLeadOn, WholeRunExists, EveryRunGoesOn, NextPhaseOpens, WholeRunEnds};
-ghost use Rattle.pulse_world.specs.PulsesPerCycle.{OncePerCycle, LinkPerCycle, OutputsReadNoLink, GatesReadNoLink};
+ghost use Rattle.pulse_world.specs.PulsesPerCycle.{WholeRunsHaveCycles, OncePerCycle, LinkPerCycle, OutputsReadNoLink, GatesReadNoLink};
+ghost use Rattle.pulse_world.specs.RailPulses.{RailLaw};
 ghost use Rattle.pulse_world.specs.WithoutCells.{OrderLawWithoutCells, RunExistsWithoutCells, BitLawWithoutCells};
 
 /// A sound netlist pulses as its rail equations say. Under every order no delivery is an upset, each phase
@@ -11,7 +12,11 @@ ghost use Rattle.pulse_world.specs.WithoutCells.{OrderLawWithoutCells, RunExists
 ///
 /// From each moment deliveries lead on to a settled one. A phase delivers exactly the wires of the netlist that are
 /// due in it, a wire has at most one pulse pending, and after relax the cells keep the next state.
+///
+/// `rails` is all of this in one record, with `whole_runs` and `pulses_per_cycle`: on each list of vectors the equations have
+/// a run, the pulses are those of every run of them, and they can be brought to the end of all vectors.
 pub fn every_order()
+    ensures rails { RailLaw }
     ensures delivers { OrderLaw }
     ensures bits { BitLaw }
     ensures follows { FollowLaw }
@@ -19,13 +24,15 @@ pub fn every_order()
 
 /// A sound netlist has a whole run on any vectors, which takes each of them through both phases, and from every
 /// moment each of its runs goes on to a whole one. Where a phase is settled the next one can be opened while a
-/// vector's phase is left; after a whole run nothing follows.
+/// vector's phase is left; after a whole run nothing follows. A whole run passes through the cycle of each vector: a
+/// moment at which its excite is settled, and a later one at which its relax is.
 pub fn whole_runs()
     ensures lead_on { MomentsLeadOn }
     ensures exists { WholeRunExists }
     ensures goes_on { EveryRunGoesOn }
     ensures opens { NextPhaseOpens }
     ensures ends { WholeRunEnds }
+    ensures cycles { WholeRunsHaveCycles }
 {}
 
 /// In each cycle of each run of a sound netlist a wire is delivered once, in excite or in relax, unless it is the

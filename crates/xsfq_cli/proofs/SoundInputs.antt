@@ -1,14 +1,13 @@
 -- What the check of an input is, once its text was read.
 use Rattle.std.proofs.Common.{◌≡◌, ℕ, List, [], ◌∷◌, Ok, Err, sym, ap, subst, ◌∙◌, append-nil, length}
 use Rattle.std.specs.declared.result.Result.{Result}
-use Rattle.cell_netlist.specs.NetRuns.{RunExists}
 use Rattle.cell_netlist.specs.Netlists.{PlainNetlist, IsNetlist}
 use Rattle.cell_netlist.specs.Sound.{IsSound}
 use Rattle.cell_netlist.specs.Text.{text_of}
 use Rattle.netlist_reader.specs.declared.refusals.NetRefusal.{NetRefusal}
 use Rattle.netlist_reader.specs.Laws.{OnlyTextsAreRead}
 use Rattle.netlist_reader.specs.Verdicts.{lines_in, net_verdict}
-use Rattle.pulse_world.specs.EveryOrder.{BitLaw}
+use Rattle.pulse_world.specs.RailPulses.{RailLaw}
 use Rattle.run_outcomes.specs.declared.outcomes.Outcome.{Outcome}
 use Rattle.xsfq_cli.specs.Answering.{IsOrNoMemory}
 use Rattle.xsfq_cli.specs.Checked.{HasCheck, IsCheckBy, IsChecked, IsSoundOr}
@@ -44,13 +43,13 @@ found_alone lines (Ok (other, [])) net e = let same : other ≡ net = cc in ap (
 found_alone lines (Ok (other, byte ∷ rest)) net e = cc
 found_alone lines (Err refusal) net e = cc
 
-pub is_checked : RunExists → BitLaw → OnlyTextsAreRead → (bytes : List ℕ) (net : PlainNetlist) → HasCheck bytes (Ok net) → IsNetlist net → IsChecked bytes net
-is_checked exists law only bytes net check netlist =
+pub is_checked : RailLaw → OnlyTextsAreRead → (bytes : List ℕ) (net : PlainNetlist) → HasCheck bytes (Ok net) → IsNetlist net → IsChecked bytes net
+is_checked rails only bytes net check netlist =
     let found = check_found (net_said bytes) net check in
     record {
       said = found.0;
       text = only bytes net [] (found_alone (length (lines_in bytes)) (net_verdict bytes) net found.0) ∙ append-nil (text_of net);
       netlist = netlist;
       sound = found.1;
-      every_order = record { some_run = exists net found.1; delivers = law net found.1 };
+      pulses = rails net found.1;
     }

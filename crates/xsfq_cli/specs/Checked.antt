@@ -1,12 +1,10 @@
 -- What the check of a netlist's text is, and what it means that a text was checked.
-use Rattle.std.specs.Prelude.{◌≡◌, ℕ, Bool, List, [], ◌∷◌, ◌++◌, Result, Ok, Err, codes, decimal}
+use Rattle.std.specs.Prelude.{◌≡◌, ℕ, List, [], ◌∷◌, ◌++◌, Result, Ok, Err, codes, decimal}
 use Rattle.cell_netlist.specs.declared.unsound.Unsound.{Unsound}
-use Rattle.cell_netlist.specs.Delivery.{Delivers}
-use Rattle.cell_netlist.specs.NetRuns.{OutputsCarry}
 use Rattle.cell_netlist.specs.Netlists.{PlainNetlist, IsNetlist, number_of_wires}
-use Rattle.cell_netlist.specs.RailEquations.{IsNetRun}
 use Rattle.cell_netlist.specs.Sound.{IsFirstUnsound, IsSound}
 use Rattle.cell_netlist.specs.Text.{text_of}
+use Rattle.pulse_world.specs.RailPulses.{PulsesAsItsRuns}
 use Rattle.run_outcomes.specs.declared.outcomes.Outcome.{Outcome}
 use Rattle.run_outcomes.specs.declared.outcomes.Outcome.TheVariants as outcomes
 use Rattle.xsfq_cli.specs.NetTexts.{net_said}
@@ -25,21 +23,14 @@ IsCheckBy (Err refusal) checked = checked ≡ Err refusal
 abbrev pub HasCheck : List ℕ → Result PlainNetlist Outcome → Type 0
 HasCheck bytes checked = IsCheckBy (net_said bytes) checked
 
--- The law of every order. By its rail equations the netlist has a run on all vectors; and in whatever order pulses
--- arrive, its output rails deliver the bits that they carry in such a run.
-pub record DeliversItsRuns (net : PlainNetlist) : Type 0 where
-  pub some_run : (vectors : List (List Bool)) → (run : List (List Bool)) × IsNetRun net vectors run
-  pub delivers : (vectors run : List (List Bool)) (bit : ℕ → ℕ → Bool) → IsNetRun net vectors run → OutputsCarry net vectors run bit
-      → Delivers net vectors bit
-
 -- These bytes are one netlist's text, with nothing after it, and the netlist is sound, so that the law of every order
--- holds of it.
+-- holds of it: it pulses as its rail equations say.
 pub record IsChecked (bytes : List ℕ) (net : PlainNetlist) : Type 0 where
   pub said : net_said bytes ≡ Ok net
   pub text : bytes ≡ text_of net
   pub netlist : IsNetlist net
   pub sound : IsSound net
-  pub every_order : DeliversItsRuns net
+  pub pulses : PulsesAsItsRuns net
 
 -- the line of a sound netlist, which tells the number of its wires
 abbrev pub sound_line : PlainNetlist → List ℕ

@@ -7,7 +7,6 @@ use Rattle.source_machine.specs.Runs.{IsRun, bit_of}
 use Rattle.source_machine.specs.Laws.{AreVectors}
 use Rattle.cell_netlist.specs.declared.kinds.Ask.{Ask}
 use Rattle.cell_netlist.specs.Asked.{Asks}
-use Rattle.cell_netlist.specs.Delivery.{Delivers}
 use Rattle.cell_netlist.specs.Lean.{IsLean}
 use Rattle.cell_netlist.specs.NetRuns.{OutputsCarry}
 use Rattle.cell_netlist.specs.RailEquations.{IsNetRun}
@@ -15,6 +14,8 @@ use Rattle.cell_netlist.specs.Netlists.{PlainNetlist, IsNetlist}
 use Rattle.cell_netlist.specs.Sound.{IsSound}
 use Rattle.cell_netlist.specs.Text.{text_of}
 use Rattle.netlist_reader.specs.Verdicts.{net_verdict}
+use Rattle.pulse_world.specs.Delivery.{Delivers}
+use Rattle.pulse_world.specs.RailPulses.{PulsesAsItsRuns}
 use Rattle.rail_mapper.specs.Mapped.{HasFewCells, Named}
 use Rattle.xsfq_cli.specs.Sources.{HasVerdict}
 
@@ -35,8 +36,9 @@ pub record IsNetOf (machine : PlainMachine) (ask : Ask) (net : PlainNetlist) : T
   pub sound : IsSound net
   pub asked : Asks ask (length machine.outputs) net
   pub named : Named machine net
-  -- by its rail equations, of which it has a run on all vectors, the output rails carry the machine's outputs
-  pub some_run : (vectors : List (List Bool)) → (run : List (List Bool)) × IsNetRun net vectors run
+  -- the law of every order holds of it: it has a run of its rail equations on all vectors, and it pulses as they say
+  pub pulses : PulsesAsItsRuns net
+  -- by these equations the output rails carry the machine's outputs
   pub carries : (vectors valuations run : List (List Bool)) → AreVectors machine vectors → IsRun machine vectors valuations → IsNetRun net vectors run
       → OutputsCarry net vectors run (bit_of machine valuations)
   -- and under every order of deliveries it delivers them

@@ -7,7 +7,7 @@ ghost use Rattle.xsfq_cli.specs.Checked.{sound_line};
 use crate::commands::Command;
 use crate::netlists::read_sound;
 use byte_ports::{Failed, Sink, Source};
-use cell_netlist::{Netlist, SoundNet, equation_runs};
+use cell_netlist::{Netlist, SoundNet};
 use netlist_reader::texts_are_read;
 use pulse_world::every_order;
 use run_outcomes::Outcome;
@@ -44,8 +44,7 @@ impl Command for Check {
     fn prepare<S: Source>(self, alloc: Global, input: &mut S) -> Result<SoundNet, Outcome> {
         // The laws that the clause rests on; these calls do nothing.
         texts_are_read();
-        equation_runs();
-        every_order();
+            every_order();
         let net = read_sound(alloc, input)?;
         let _ = net.net().wires();
         Ok(net)

@@ -10,7 +10,7 @@ use crate::consuming::read_whole;
 use crate::sources::SourceReader;
 use aiger_reader::early_refusals_stand;
 use byte_ports::{Failed, Sink, Source};
-use cell_netlist::{Ask, Netlist, SoundNet, equation_runs};
+use cell_netlist::{Ask, Netlist, SoundNet};
 use graph_build::build;
 use netlist_reader::texts_are_read;
 use netlist_writer::write_netlist;
@@ -35,7 +35,6 @@ pub(crate) fn netlist_of(alloc: Global, machine: &Machine, ask: Ask) -> Result<S
 {
     // The laws that the clauses rest on, and what a machine and a netlist are; these calls do nothing.
     one_run();
-    equation_runs();
     every_order();
     texts_are_read();
     let _ = machine.raw();

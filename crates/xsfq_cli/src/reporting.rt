@@ -9,7 +9,7 @@ ghost use Rattle.junction_report.specs.Texts.{report_text};
 use crate::commands::Command;
 use crate::netlists::read_sound;
 use byte_ports::{Failed, Sink, Source};
-use cell_netlist::{SoundNet, equation_runs};
+use cell_netlist::SoundNet;
 use junction_report::{Report, report, write_report};
 use netlist_reader::texts_are_read;
 use pulse_ids::NoMemory;
@@ -58,8 +58,7 @@ impl Command for MakeReport {
         let told = reported(alloc, net)?;
         // The laws that the clause rests on; these calls do nothing.
         texts_are_read();
-        equation_runs();
-        every_order();
+            every_order();
         Ok(told)
     }
 

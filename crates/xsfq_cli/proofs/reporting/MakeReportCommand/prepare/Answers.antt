@@ -5,7 +5,7 @@ use Rattle.xsfq_cli.proofs.reporting.MakeReportCommand.prepare.Goals as goal
 pub returns : goal.returns
 returns g c =
     let read = c.in_ok-net.ensures in
-    let checked = is_checked c.equation_runs.ensures.exists c.every_order.ensures.bits c.texts_are_read.ensures.only read.0 c.in_ok-net.net read.2
+    let checked = is_checked c.every_order.ensures.rails c.texts_are_read.ensures.only read.0 c.in_ok-net.net read.2
     c.reported.ensures.netlist in (
       read.0,
       read.1,

@@ -8,3 +8,6 @@ pub mod CycleLists
 pub mod OrderCycles
 pub mod ScriptCycles
 pub mod Starts
+pub mod WorldCycles
+pub mod RunTexts
+pub mod OneText

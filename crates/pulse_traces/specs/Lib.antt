@@ -6,3 +6,5 @@ pub mod Rooms
 pub mod Simulations
 pub mod CycleCounts
 pub mod Scripts
+pub mod RunTexts
+pub mod EveryOrder

@@ -4,6 +4,7 @@
 
 mod cycles;
 mod digits;
+mod laws;
 mod lines;
 mod orders;
 mod pulse_counts;
@@ -11,6 +12,7 @@ mod rooms;
 mod scripts;
 mod simulations;
 
+pub use laws::{every_order_says_the_same, one_count, one_replay, one_simulation};
 pub use orders::DeliveryOrder;
 pub use pulse_counts::PulseCounts;
 pub use scripts::CycleFault;

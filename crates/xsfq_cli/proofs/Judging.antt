@@ -99,8 +99,8 @@ module _ (founded : FoundedIsNotRefused) (equal : RefusalsAreEqual) (first : Fir
   refused_without_text Check bytes text refusal ending is (net, checked, e, d) = unrefused sound net (net_said bytes) refusal checked.said checked.sound is
   refused_without_text Report bytes text refusal ending is (net, reported, d) =
       unrefused sound net (net_said bytes) refusal reported.checked.said reported.checked.sound is
-  refused_without_text (Simulate schedule trace) bytes text refusal ending is (found, has, simulates) =
-      found_unrefused sound (input_said (has_scripts schedule) bytes) found refusal has is
+  refused_without_text (Simulate schedule trace) bytes text refusal ending is (found, simulation) =
+      found_unrefused sound (input_said (has_scripts schedule) bytes) found refusal simulation.has is
   refused_without_text (Workload bits) bytes text refusal ending is writes = absurd is
 
 -- the outcome of a refusal of the bytes

@@ -18,6 +18,7 @@ pub mod OptionPairs
 pub mod OrderRanges
 pub mod ReportedLaws
 pub mod SimulationLaws
+pub mod SimulationTexts
 pub mod SoundInputs
 pub mod SourceReading
 pub mod Stopping
@@ -26,3 +27,4 @@ pub mod Taking
 pub mod TextLimits
 pub mod TextSizes
 pub mod WorkloadLaws
+pub mod WorkloadTexts

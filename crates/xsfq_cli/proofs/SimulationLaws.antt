@@ -4,7 +4,9 @@ use Rattle.std.specs.declared.result.Result.{Result}
 use Rattle.pulse_ids.specs.Ids.{WireId}
 use Rattle.pulse_ids.specs.Lists.{IsIn}
 use Rattle.byte_ports.specs.declared.port.Failed.{Failed}
-use Rattle.cell_netlist.specs.Netlists.{PlainNetlist}
+use Rattle.cell_netlist.specs.Netlists.{PlainNetlist, IsNetlist}
+use Rattle.cell_netlist.specs.Sound.{IsSound}
+use Rattle.pulse_world.specs.RailPulses.{RailLaw}
 use Rattle.simulation_reader.specs.declared.readers.SimulationInput.{SimulationInput}
 use Rattle.simulation_reader.specs.declared.refusals.InputRefusal.{InputRefusal}
 use Rattle.simulation_reader.specs.InputTexts.{judgement}
@@ -19,7 +21,7 @@ use Rattle.xsfq_cli.specs.Halves.{Emits, Reads}
 use Rattle.xsfq_cli.specs.Judgements.{Writes}
 use Rattle.xsfq_cli.specs.Laws.{RefusalsAreOfBytes, SimulatedLaw}
 use Rattle.run_outcomes.specs.Outcomes.{IsEnding, IsRefusal}
-use Rattle.xsfq_cli.specs.Simulated.{HasInput, has_scripts, in_outcomes, input_shown, IsInputBy, IsSoundInputOr, SaysInput, Simulates}
+use Rattle.xsfq_cli.specs.Simulated.{HasInput, has_scripts, in_outcomes, input_shown, IsInputBy, IsSimulation, IsSoundInputOr, SaysInput, Simulates}
 use Rattle.xsfq_cli.specs.Table.{AnswersOrder, Ends, Input, Output, ReadWhole, Wrote}
 use Rattle.xsfq_cli.proofs.TableLaws.{refusal_apart}
 use Rattle.xsfq_cli.proofs.Taking.{finished}
@@ -29,6 +31,11 @@ found_form : (judged : Result SimulationInput InputRefusal) (found : SoundInput)
     → IsInputBy (in_outcomes judged) (Ok found) → HasForm (record { net = found.net; vectors = found.vectors })
 found_form (Ok input) found form (net, vectors, sound) = rw (net, vectors) (form input refl)
 found_form (Err refusal) found form e = cc
+
+-- and it is sound
+pub found_sound : (said : Result SimulationInput Outcome) (found : SoundInput) → IsInputBy said (Ok found) → IsSound found.net
+found_sound (Ok input) found (net, vectors, sound) = subst IsSound (sym net) sound
+found_sound (Err refusal) found e = cc
 
 module _ (form : InputsHaveTheirForm) (with_scripts : Bool) (bytes : List ℕ) (found : SoundInput) (has : HasInput with_scripts bytes (Ok found)) where
   in_form : HasForm (record { net = found.net; vectors = found.vectors })
@@ -52,11 +59,16 @@ input_checked with_scripts input read result (bytes, whole, said) judged =
 
 -- an input that was read and whose text was written, or not
 module _ (schedule : Schedule) (trace : Bool) (input : Input) (output : Output) (read : SoundInput) (net : PlainNetlist) (same : net ≡ read.net)
-    (has_read : Reads (input_shown (has_scripts schedule)) (HasInput (has_scripts schedule)) input (Ok read)) where
+    (rails : RailLaw) (netlist : IsNetlist read.net) (has_read : Reads (input_shown (has_scripts schedule)) (HasInput (has_scripts schedule)) input (Ok read)) where
   as_read : (text : List ℕ) (ending : Outcome) → Simulates schedule trace (record { net = net; vectors = read.vectors }) text ending
       → Writes (Simulate schedule trace) has_read.0 text ending
   as_read text ending told =
-      (read, has_read.2, subst (λ (n : PlainNetlist). Simulates schedule trace (record { net = n; vectors = read.vectors }) text ending) same told)
+      (read, record {
+        has = has_read.2;
+        netlist = netlist;
+        pulses = rails read.net (found_sound _ read has_read.2);
+        simulates = subst (λ (n : PlainNetlist). Simulates schedule trace (record { net = n; vectors = read.vectors }) text ending) same told;
+      })
 
   pub simulated : (outcome : Outcome) → Emits {E = Failed} (Simulates schedule trace (record { net = net; vectors = read.vectors })) output (Ok outcome)
       → AnswersOrder (Simulate schedule trace) input output outcome
@@ -85,8 +97,8 @@ ended : RefusalsAreOfBytes → SimulatedLaw
 ended of schedule trace input output outcome answers ends = go answers
   where
     Ended : Type 0
-    Ended = (bytes : List ℕ) × ReadWhole (input_shown (has_scripts schedule)) input bytes × (read : SoundInput) × HasInput (has_scripts schedule) bytes (Ok read)
-        × (text : List ℕ) × Simulates schedule trace read text outcome × Wrote output text
+    Ended = (bytes : List ℕ) × ReadWhole (input_shown (has_scripts schedule)) input bytes × (read : SoundInput) × (text : List ℕ)
+        × IsSimulation schedule trace bytes read text outcome × Wrote output text
 
     go : AnswersOrder (Simulate schedule trace) input output outcome → Ended
     go (inl (inl refused, unwritten)) = absurd (refusal_apart outcome (of (Simulate schedule trace) (refused.taken ++ refused.rest) outcome refused.refuses_all) ends)
@@ -99,9 +111,8 @@ ended of schedule trace input output outcome answers ends = go answers
           performed.bytes,
           performed.reads_all,
           performed.writes.0,
-          performed.writes.1,
           performed.text,
-          subst (λ (o : Outcome). Simulates schedule trace performed.writes.0 performed.text o) (sym e) performed.writes.2,
+          subst (λ (o : Outcome). IsSimulation schedule trace performed.bytes performed.writes.0 performed.text o) (sym e) performed.writes.1,
           wrote,
         )
         by_end (inr (e, failed)) = absurd (subst IsEnding e ends)

@@ -33,7 +33,7 @@ text_ends : (order : Order) (bytes text : List ℕ) (ending : Outcome) → Write
 text_ends (Compile ask) bytes text ending (net, compiled, e, d) = subst IsEnding (sym d) tt
 text_ends Check bytes text ending (net, checked, e, d) = subst IsEnding (sym d) tt
 text_ends Report bytes text ending (net, reported, d) = subst IsEnding (sym d) tt
-text_ends (Simulate schedule trace) bytes text ending (input, has, simulates) = simulation_ends schedule trace input text ending simulates
+text_ends (Simulate schedule trace) bytes text ending (input, is) = simulation_ends schedule trace input text ending is.simulates
 text_ends (Workload bits) bytes text ending (work, is, made, e, d) = subst IsEnding (sym d) tt
 
 -- no refusal is an ending

@@ -13,7 +13,7 @@ use Rattle.xsfq_cli.specs.Headline.{IsCompiled}
 use Rattle.xsfq_cli.specs.NetTexts.{net_shown}
 use Rattle.xsfq_cli.specs.Reported.{IsReported}
 use Rattle.xsfq_cli.specs.declared.simulation_inputs.SoundInput.{SoundInput}
-use Rattle.xsfq_cli.specs.Simulated.{has_scripts, HasInput, input_shown, Simulates}
+use Rattle.xsfq_cli.specs.Simulated.{has_scripts, HasInput, input_shown, IsSimulation}
 use Rattle.xsfq_cli.specs.Sources.{source_shown, HasVerdict}
 use Rattle.xsfq_cli.specs.declared.workloads.Work.{Work}
 use Rattle.xsfq_cli.specs.Workloads.{IsDone, work_text}
@@ -55,5 +55,5 @@ abbrev pub Writes : Order → List ℕ → List ℕ → Outcome → Type 0
 Writes (Compile ask) bytes text ending = (net : PlainNetlist) × IsCompiled ask bytes net × (text ≡ text_of net) × (ending ≡ Done)
 Writes Check bytes text ending = (net : PlainNetlist) × IsChecked bytes net × (text ≡ sound_line net) × (ending ≡ Done)
 Writes Report bytes text ending = (net : PlainNetlist) × IsReported bytes net text × (ending ≡ Done)
-Writes (Simulate schedule trace) bytes text ending = (input : SoundInput) × HasInput (has_scripts schedule) bytes (Ok input) × Simulates schedule trace input text ending
+Writes (Simulate schedule trace) bytes text ending = (input : SoundInput) × IsSimulation schedule trace bytes input text ending
 Writes (Workload bits) bytes text ending = (work : Work) × (work.bits ≡ bits) × IsDone work × (text ≡ work_text work) × (ending ≡ Done)

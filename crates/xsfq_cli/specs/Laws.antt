@@ -20,7 +20,7 @@ use Rattle.xsfq_cli.specs.Judgements.{most_bytes, reads, shown, Refuses, Writes}
 use Rattle.xsfq_cli.specs.NetTexts.{net_shown}
 use Rattle.run_outcomes.specs.Outcomes.{IsEnding, IsRefusal}
 use Rattle.xsfq_cli.specs.declared.simulation_inputs.SoundInput.{SoundInput}
-use Rattle.xsfq_cli.specs.Simulated.{has_scripts, HasInput, input_shown, Simulates}
+use Rattle.xsfq_cli.specs.Simulated.{has_scripts, input_shown, IsSimulation}
 use Rattle.xsfq_cli.specs.Sources.{HasVerdict, source_shown}
 use Rattle.xsfq_cli.specs.Table.{Input, Output, Answers, ReadWhole, Unread, Unwritten, WriteFailed, Wrote}
 use Rattle.xsfq_cli.specs.declared.workloads.Work.{Work}
@@ -140,12 +140,11 @@ UnsoundLaw = (input : Input) (output : Output) (outcome : Outcome) (net : PlainN
     → (outcome ≡ outcomes.Unsound unsound) ⊎ (outcome ≡ outcomes.NoMemory)
 
 -- After `Done` of `simulate`, and after a script's fault, the whole input was a netlist's text and vectors for it, the netlist
--- is sound, and the output took exactly the text of its simulation and was flushed.
+-- is sound, so that it pulses as its rail equations say, and the output took exactly the text of its simulation and was flushed.
 abbrev pub SimulatedLaw : Type 0
 SimulatedLaw = (schedule : Schedule) (trace : Bool) (input : Input) (output : Output) (outcome : Outcome) → Answers (Some (Simulate schedule trace)) input output outcome
     → IsEnding outcome → (bytes : List ℕ) × ReadWhole (input_shown (has_scripts schedule)) input bytes
-    × (read : SoundInput) × HasInput (has_scripts schedule) bytes (Ok read)
-    × (text : List ℕ) × Simulates schedule trace read text outcome × Wrote output text
+    × (read : SoundInput) × (text : List ℕ) × IsSimulation schedule trace bytes read text outcome × Wrote output text
 
 -- `workload` reads nothing. Its outcome is that memory was refused, and nothing was written; or its work was done, and the output
 -- took the netlist's text with the summary behind it and was flushed, or failed and took a prefix of it.

@@ -15,6 +15,8 @@ pub mod Reading
 pub mod ReportLaws
 pub mod Reported
 pub mod Simulated
+pub mod SimulationTexts
 pub mod Sources
 pub mod Table
 pub mod Workloads
+pub mod WorkloadTexts

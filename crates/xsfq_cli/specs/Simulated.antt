@@ -1,8 +1,9 @@
 -- What the input of `simulate` is judged to be, and what is written for it.
 use Rattle.std.specs.Prelude.{◌≡◌, ℕ, Bool, true, false, List, Option, Some, None, Result, Ok, Err, option_map}
 use Rattle.cell_netlist.specs.declared.unsound.Unsound.{Unsound}
-use Rattle.cell_netlist.specs.Netlists.{PlainNetlist}
+use Rattle.cell_netlist.specs.Netlists.{PlainNetlist, IsNetlist}
 use Rattle.cell_netlist.specs.Sound.{IsFirstUnsound, IsSound}
+use Rattle.pulse_world.specs.RailPulses.{PulsesAsItsRuns}
 use Rattle.pulse_traces.specs.declared.scripts.CycleFault.{CycleFault}
 use Rattle.pulse_traces.specs.Scripts.{IsReplayed, scripted}
 use Rattle.pulse_traces.specs.SimulationTexts.{simulation_text}
@@ -66,3 +67,11 @@ Simulates (Order order) trace input text ending =
 Simulates Script trace input text ending =
     (made : List Cycle) × (fault : Option CycleFault) × IsReplayed input.net (scripted input.vectors) made fault × (text ≡ simulation_text trace input.net made)
     × (ending ≡ ending_of fault)
+
+-- The headline of `simulate`. These bytes are a netlist's text and vectors for it, the netlist is sound, so that it pulses as its
+-- rail equations say, and this is the text of its simulation, which ends so.
+pub record IsSimulation (schedule : Schedule) (trace : Bool) (bytes : List ℕ) (input : SoundInput) (text : List ℕ) (ending : Outcome) : Type 0 where
+  pub has : HasInput (has_scripts schedule) bytes (Ok input)
+  pub netlist : IsNetlist input.net
+  pub pulses : PulsesAsItsRuns input.net
+  pub simulates : Simulates schedule trace input text ending

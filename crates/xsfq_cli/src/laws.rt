@@ -4,15 +4,20 @@ ghost use Rattle.netlist_reader.specs.Laws.{EarlyStands};
 ghost use Rattle.simulation_reader.specs.Laws as inputs;
 ghost use Rattle.xsfq_cli.specs.Laws.{AcceptedLaw, BoundedLaw, CheckedLaw, DoneLaw, MachineLaw, OneRefusal, OneVerdict, OnlyRefusedLaw, ReadFaultLaw, RefusalsAreOfBytes, RefusedHasNoText, RefusedLaw, ShownIsRefused, SimulatedLaw, SoundLaw, UnsoundLaw, UnreadLaw, UnwrittenLaw, UsageLaw, WorkloadLaw, WriteFaultLaw};
 ghost use Rattle.xsfq_cli.specs.Examples.{WordsAreOrders};
+ghost use Rattle.xsfq_cli.specs.SimulationTexts.{TextSaysBits, SchedulesAgree, OneSimulationText};
+ghost use Rattle.xsfq_cli.specs.WorkloadTexts.{WorkloadIsCompiled, CounterIsCompiled, OneWorkText};
 ghost use Rattle.xsfq_cli.specs.ReportLaws.{OneReportText, ReportedLaw, SoundIsReported, UnsoundIsNotReported};
 
 use aiger_reader::early_refusals_stand;
 use blif_reader::sources_are_told;
 use cell_netlist::one_refusal;
+use counter_sources::counters_are_read;
 use junction_report::one_report;
 use netlist_reader::texts_are_read;
-use simulation_reader::refusals_are_of_bytes;
+use pulse_traces::{every_order_says_the_same, one_count, one_replay, one_simulation};
+use simulation_reader::{inputs_have_their_form, refusals_are_of_bytes};
 use source_machine::one_verdict;
+use workload_circuits::counters_are_founded;
 
 /// What the first bytes of a netlist's text show stands.
 fn net_refusals_stand()
@@ -102,17 +107,36 @@ pub fn netlists_are_reported()
     one_report();
 }
 
-/// What stands after `Done` of `simulate`, and after a script's fault.
+/// What stands after `Done` of `simulate`, and after a script's fault. An input has one text by each schedule. Without a
+/// trace, the text that ends with `Done` is that of the bits which a run of the rail equations carries, and so the same in
+/// every order and by every script.
 pub fn netlists_are_simulated()
-    ensures { SimulatedLaw }
+    ensures done { SimulatedLaw }
+    ensures one { OneSimulationText }
+    ensures bits { TextSaysBits }
+    ensures agree { SchedulesAgree }
 {
     one_judgement();
+    every_order_says_the_same();
+    one_simulation();
+    one_replay();
+    inputs_have_their_form();
 }
 
-/// What `workload` answers.
+/// What `workload` answers. The netlist that it writes is one that `compile` makes of the counter's text, of which `compile`
+/// makes no other than the counter's, and for a netlist the text is one.
 pub fn workloads_are_done()
-    ensures { WorkloadLaw }
-{}
+    ensures done { WorkloadLaw }
+    ensures compiled { WorkloadIsCompiled }
+    ensures counter { CounterIsCompiled }
+    ensures one { OneWorkText }
+{
+    one_judgement();
+    counters_are_read();
+    counters_are_founded();
+    one_count();
+    one_report();
+}
 
 /// What some words order.
 pub fn words_are_orders()

@@ -15,6 +15,7 @@ use crate::orders::Schedule;
 use crate::simulation_inputs::read_input;
 use byte_ports::{Failed, Sink, Source};
 use pulse_traces::{CycleFault, DeliveryOrder, Simulation};
+use pulse_world::every_order;
 use run_outcomes::Outcome;
 use schedule_replay::Vectors;
 use simulation_reader::inputs_have_their_form;
@@ -116,11 +117,14 @@ pub(crate) fn simulate<S: Source, K: Sink>(
 ) -> Outcome
     ensures { AnswersOrder (orders.Simulate schedule trace) (input_of S.left S.faults input.old input.new) (output_of K.taken K.faults K.flushed output.old output.new) result }
 {
+    // The laws that the clause rests on, and what a netlist is; these calls do nothing.
     inputs_have_their_form();
+    every_order();
     let read = match read_input(alloc, schedule, input) {
         Ok(read) => read,
         Err(outcome) => return outcome,
     };
+    let _ = read.net.net().wires();
     let simulation = match Simulation::new(alloc, &read.net) {
         Ok(simulation) => simulation,
         Err(_) => return Outcome::NoMemory,

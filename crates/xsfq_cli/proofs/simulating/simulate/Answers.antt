@@ -1,5 +1,6 @@
 -- The input fits what is asked of it, and its text was written, or not.
-use Rattle.std.proofs.Common.{ap, sym, ◌∙◌}
+use Rattle.std.proofs.Common.{ap, sym, subst, ◌∙◌}
+use Rattle.cell_netlist.specs.Netlists.{PlainNetlist, IsNetlist}
 use Rattle.xsfq_cli.specs.Simulated.{has_scripts}
 use Rattle.xsfq_cli.proofs.SimulationLaws.{not_simulated, scripts_short, simulated, vectors_fit}
 use Rattle.xsfq_cli.proofs.simulating.simulate.Goals as goal
@@ -15,8 +16,10 @@ emit-requires-clause-short g c = λ script among.
 
 pub returns-in-Ok-emit : goal.returns-in-Ok-emit
 returns-in-Ok-emit g c =
-    simulated c.args.schedule c.args.trace _ _ c.in-Ok.read c.in-Ok-new.simulation c.in-Ok-new.ensures c.in-Ok.ensures c.in-Ok-emit.outcome c.in-Ok-emit.ensures
+    simulated c.args.schedule c.args.trace _ _ c.in-Ok.read c.in-Ok-new.simulation c.in-Ok-new.ensures c.every_order.ensures.rails
+    (subst (λ (net : PlainNetlist). IsNetlist net) c.net.ensures.net c.wires.ensures.netlist) c.in-Ok.ensures c.in-Ok-emit.outcome c.in-Ok-emit.ensures
 
 pub returns : goal.returns
 returns g c =
-    not_simulated c.args.schedule c.args.trace _ _ c.in-Ok.read c.in-Ok-new.simulation c.in-Ok-new.ensures c.in-Ok.ensures c.in-Err-emit.field-0 c.in-Err-emit.ensures
+    not_simulated c.args.schedule c.args.trace _ _ c.in-Ok.read c.in-Ok-new.simulation c.in-Ok-new.ensures c.every_order.ensures.rails
+    (subst (λ (net : PlainNetlist). IsNetlist net) c.net.ensures.net c.wires.ensures.netlist) c.in-Ok.ensures c.in-Err-emit.field-0 c.in-Err-emit.ensures

@@ -17,7 +17,6 @@ pub mod Lean
 pub mod LeanDecisions
 pub mod LeanLaws
 pub mod Asked
-pub mod Delivery
 pub mod ExampleNetlists
 pub mod ExampleRuns
 pub mod ExampleRefusals

@@ -11,3 +11,4 @@ pub mod Starts
 pub mod WorldCycles
 pub mod RunTexts
 pub mod OneText
+pub mod SimulationsThere

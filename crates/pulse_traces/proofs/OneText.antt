@@ -100,10 +100,10 @@ restart-scripts number step one other same (c ∷ made) left last fault (mid, on
 
 module _ (one_replay : OneReplay) (keep : DeliveriesKeep) (relaxes : RelaxIsOpened) (excites : ExciteIsOpened) where
   module _ (before : PlainWorld) (c : Cycle) (is : IsWorld (opened_world Excite c.vector before)) where
-    abbrev first_of : PlainWorld
+    abbrev pub first_of : PlainWorld
     first_of = opened_world Excite c.vector before
 
-    relaxed-is : (middle : PlainWorld) → Replays first_of c.excite middle (Ok tt) → IsWorld (opened_world Relax c.vector middle)
+    pub relaxed-is : (middle : PlainWorld) → Replays first_of c.excite middle (Ok tt) → IsWorld (opened_world Relax c.vector middle)
     relaxed-is middle r =
         let k = keep c.excite first_of middle is r.0 in
         subst (λ v. IsWorld (opened_world Relax v middle)) k.vector (relaxed_world relaxes middle k.world (ap phase_of k.opened) r.1)
@@ -123,7 +123,7 @@ module _ (one_replay : OneReplay) (keep : DeliveriesKeep) (relaxes : RelaxIsOpen
         let r = second m n a b (Err fault) (Err also) ok fine x y in let e = r.0 in (refl, cc)
 
     -- both scripts of the cycle were delivered
-    abbrev Made : PlainWorld → Type 0
+    abbrev pub Made : PlainWorld → Type 0
     Made after = (middle : PlainWorld) × Replays first_of c.excite middle (Ok tt) × Replays (opened_world Relax c.vector middle) c.relax after (Ok tt)
 
     fails-made : (phase : Phase) (fault : ScriptFault) (after : PlainWorld) → Fails before c phase fault → Made after → ⊥
@@ -141,7 +141,7 @@ module _ (one_replay : OneReplay) (keep : DeliveriesKeep) (relaxes : RelaxIsOpen
     )
 
     -- the next cycle begins between two cycles
-    made-between : (after : PlainWorld) → Made after → IsBetween after × (after.net ≡ before.net)
+    pub made-between : (after : PlainWorld) → Made after → IsBetween after × (after.net ≡ before.net)
     made-between after (m, ok, x) =
         let k = keep c.excite first_of m is ok.0 in
         let l = keep c.relax (opened_world Relax c.vector m) after (relaxed-is m ok) x.0 in

@@ -7,8 +7,7 @@ use Rattle.cell_netlist.specs.World.{State, opened, Delivered, deliver}
 use Rattle.cell_netlist.specs.Runs.{Stage, Moment, Event, Opens, Delivers, next_stage, OpensPhase, DeliversPulse, beginning, IsMoment}
 use Rattle.pulse_world.specs.LaterMoments.{LeadsOn, MomentsLeadOn}
 use Rattle.pulse_world.specs.Worlds.{PlainWorld, state_of, opened_world}
-use Rattle.pulse_world.proofs.RunMoments.{counts-are}
-use Rattle.pulse_world.proofs.WholeRuns.{leads-joined}
+use Rattle.pulse_world.proofs.CallerLemmas.{counts_are, leads_joined}
 use Rattle.schedule_replay.specs.Settling.{DeliversInTurn}
 use Rattle.schedule_replay.specs.Orders.{Cycle, vector_of, MakesCycle, MakesCycles}
 use Rattle.pulse_traces.specs.EveryOrder.{IsCycleOf, SimulatedInWorld, ReplayedInWorld}
@@ -40,7 +39,7 @@ module _ (lead_on : MomentsLeadOn) (net : PlainNetlist) (vectors : List (List Bo
       let pulse : DeliversPulse net wire (moment_of stage taken before) (moment_of stage (taken ++ wire ∷ []) mid) =
       record { stage = refl; delivered = refl; state = subst (λ n. deliver n (state_of before) wire ≡ Delivered (state_of mid)) e d.delivered } in
       let r = turns-lead names (step + 1) wires mid after stage (taken ++ wire ∷ []) (d.net ∙ e) rest in
-      let joined = leads-joined net vectors (Delivers wire ∷ []) r.0 (moment_of stage taken before) (moment_of stage (taken ++ wire ∷ []) mid)
+      let joined = leads_joined net vectors (Delivers wire ∷ []) r.0 (moment_of stage taken before) (moment_of stage (taken ++ wire ∷ []) mid)
       (moment_of stage ((taken ++ wire ∷ []) ++ wires) after) (moment_of stage taken before, refl, pulse) r.1 in (
         r.0 ++ Delivers wire ∷ [],
         subst (λ ws. LeadsOn net vectors (r.0 ++ Delivers wire ∷ []) (moment_of stage taken before) (moment_of stage ws after)) (append_assoc taken (wire ∷ []) wires) joined,
@@ -82,7 +81,7 @@ module _ (lead_on : MomentsLeadOn) (net : PlainNetlist) (vectors : List (List Bo
       let t2 = turns-lead names (step + length cycle.excite) cycle.relax w2 after (Some (relax_of k)) [] net1 made.relaxes in
       let relaxed = moment_of (Some (relax_of k)) cycle.relax after in
       let opened2 = moment_of (Some (relax_of k)) [] w2 in
-      let leads = leads-joined net vectors (Opens ∷ []) t2.0 excited opened2 relaxed (excited, refl, o2) t2.1 in
+      let leads = leads_joined net vectors (Opens ∷ []) t2.0 excited opened2 relaxed (excited, refl, o2) t2.1 in
       let ends : IsMoment net vectors relaxed = lead_on net vectors (t2.0 ++ Opens ∷ []) excited relaxed reached leads in
       record {
         is = record {
@@ -99,8 +98,8 @@ module _ (lead_on : MomentsLeadOn) (net : PlainNetlist) (vectors : List (List Bo
           };
           excites = refl;
           relaxes = refl;
-          excite_counts = counts-are net vectors reached.0 excited reached.1;
-          relax_counts = counts-are net vectors ends.0 relaxed ends.1;
+          excite_counts = counts_are net vectors reached.0 excited reached.1;
+          relax_counts = counts_are net vectors ends.0 relaxed ends.1;
         };
         ends = ends;
         net_is = turns-net names (step + length cycle.excite) cycle.relax w2 after made.relaxes ∙ net1;

@@ -88,6 +88,18 @@ pub record CanBeReplayed (net : PlainNetlist) (asked : List Cycle) : Type 0 wher
   pub few : number_of_wires net ≤ greatest_of Wires
   pub width : (cycle : Cycle) → IsIn cycle asked → length cycle.vector ≡ net.inputs
 
+-- In every order such vectors can be simulated.
+abbrev pub SimulationsExist : Type 0
+SimulationsExist =
+    (order : DeliveryOrder) (net : PlainNetlist) (asked : List Cycle) → CanBeReplayed net asked
+    → (cycles : List Cycle) × IsSimulated order net (map vector_of asked) cycles
+
+-- And whatever scripts ask for, there are cycles up to the first fault.
+abbrev pub ReplaysExist : Type 0
+ReplaysExist =
+    (net : PlainNetlist) (asked : List Cycle) → CanBeReplayed net asked
+    → (made : List Cycle) × (fault : Option CycleFault) × IsReplayed net asked made fault
+
 -- By scripts such a netlist has one list of cycles up to the first fault, and one fault or none.
 abbrev pub OneReplayed : Type 0
 OneReplayed =

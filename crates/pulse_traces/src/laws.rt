@@ -1,6 +1,6 @@
 //! Laws of simulations, each on a function that calls the laws below it and does nothing.
 
-ghost use Rattle.pulse_traces.specs.EveryOrder.{SimulatedInWorld, ReplayedInWorld, SimulatedSaysBits, ReplayedSaysBits, FaultlessIsWhole, OrdersAgree, ScriptsAgree, OneSimulation, OneReplayed, OneCount};
+ghost use Rattle.pulse_traces.specs.EveryOrder.{SimulatedInWorld, ReplayedInWorld, SimulatedSaysBits, ReplayedSaysBits, FaultlessIsWhole, OrdersAgree, ScriptsAgree, SimulationsExist, ReplaysExist, OneSimulation, OneReplayed, OneCount};
 
 use pulse_world::{every_order, moments_of_worlds, whole_runs};
 use schedule_replay::{cycles_of_orders, deliveries_in_turn};
@@ -19,6 +19,18 @@ pub fn every_order_says_the_same()
 {
     every_order();
     whole_runs();
+}
+
+/// A sound netlist, not of too many wires, can be simulated on all vectors of its width, in every order and by all scripts.
+pub fn simulations_exist()
+    ensures ordered { SimulationsExist }
+    ensures scripted { ReplaysExist }
+{
+    cycles_of_orders();
+    schedule_replay::one_replay();
+    schedule_replay::scripts_end();
+    deliveries_in_turn();
+    moments_of_worlds();
 }
 
 /// An order gives a netlist and vectors one list of cycles, and so one text, with a trace too.

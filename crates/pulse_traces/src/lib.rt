@@ -12,7 +12,9 @@ mod rooms;
 mod scripts;
 mod simulations;
 
-pub use laws::{every_order_says_the_same, one_count, one_replay, one_simulation};
+pub use laws::{
+    every_order_says_the_same, one_count, one_replay, one_simulation, simulations_exist,
+};
 pub use orders::DeliveryOrder;
 pub use pulse_counts::PulseCounts;
 pub use scripts::CycleFault;

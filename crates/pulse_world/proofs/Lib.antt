@@ -24,8 +24,10 @@ pub mod PulsedGates
 pub mod PreloadedStates
 pub mod Reactions
 pub mod WorldMoments
-pub mod WirePulses
+pub mod OpeningWires
+pub mod EmittedWires
 pub mod QueueRoom
 pub mod ClockedCells
 pub mod WorldDeliveries
 pub mod ReaderDeliveries
+pub mod CallerLemmas

@@ -1,4 +1,5 @@
-use Rattle.pulse_world.proofs.WirePulses.{openings_pulse, openings_are_pending, deliveries_emit, deliveries_emit_behind}
+use Rattle.pulse_world.proofs.EmittedWires.{deliveries_emit, deliveries_emit_behind}
+use Rattle.pulse_world.proofs.OpeningWires.{openings_pulse, openings_are_pending}
 use Rattle.pulse_world.proofs.moments.pulses_on_wires.Goals as goal
 
 pub returns-clause-openings : goal.returns-clause-openings

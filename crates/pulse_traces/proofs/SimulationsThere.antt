@@ -4,7 +4,6 @@ use Rattle.std.proofs.lemmas.List.{length-replicate}
 use Rattle.pulse_ids.specs.declared.quantities.Quantity.TheVariants.{Wires}
 use Rattle.pulse_ids.specs.Lists.{IsIn}
 use Rattle.pulse_ids.specs.Quantities.{greatest_of}
-use Rattle.cell_netlist.specs.declared.kinds.Phase.{Phase}
 use Rattle.cell_netlist.specs.declared.kinds.Phase.TheVariants.{Excite, Relax}
 use Rattle.cell_netlist.specs.Netlists.{PlainNetlist, number_of_wires}
 use Rattle.cell_netlist.specs.Runs.{beginning}
@@ -14,12 +13,12 @@ use Rattle.pulse_ids.proofs.CallerLemmas.{IsIn-from_map}
 use Rattle.pulse_world.specs.WorldMoments.{StartIsBeginning, ExciteIsOpened, RelaxIsOpened}
 use Rattle.pulse_world.specs.Worlds.{PlainWorld, world_of, opened_world, IsWorld}
 use Rattle.schedule_replay.specs.declared.replaying.ScriptFault.{ScriptFault}
-use Rattle.schedule_replay.specs.Settling.{DeliversInTurn, Anywhere, DeliveriesKeep}
+use Rattle.schedule_replay.specs.Settling.{Anywhere, DeliveriesKeep}
 use Rattle.schedule_replay.specs.Orders.{Cycle, vector_of, MakesCycle, MakesCycles, IsBetween, CyclesThere}
 use Rattle.schedule_replay.specs.Replaying.{Replays, ScriptsEnd, OneReplay}
 use Rattle.schedule_replay.proofs.CallerLemmas.{at_any_place, excited_world}
 use Rattle.pulse_traces.specs.declared.scripts.CycleFault.{CycleFault}
-use Rattle.pulse_traces.specs.EveryOrder.{CanBeReplayed, SimulationsExist, ReplaysExist}
+use Rattle.pulse_traces.specs.EveryOrder.{SimulationsExist, ReplaysExist}
 use Rattle.pulse_traces.specs.Orders.{place_of}
 use Rattle.pulse_traces.specs.Scripts.{StopsAt}
 use Rattle.pulse_traces.specs.Simulations.{IsStart}

@@ -1,5 +1,5 @@
 -- What a command makes of an input is one thing.
-use Rattle.std.proofs.Common.{◌≡◌, ◌++◌, ℕ, Bool, List, Ok, Err, refl, sym, ap, subst, ◌∙◌}
+use Rattle.std.proofs.Common.{◌≡◌, ◌++◌, ℕ, List, Ok, Err, refl, sym, ap, subst, ◌∙◌}
 use Rattle.std.specs.declared.result.Result.{Result}
 use Rattle.cell_netlist.specs.Netlists.{PlainNetlist}
 use Rattle.cell_netlist.specs.Sound.{Breaks, IsSound}

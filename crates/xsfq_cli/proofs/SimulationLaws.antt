@@ -1,5 +1,5 @@
 -- What the table gives of `simulate`, and how a simulation is performed.
-use Rattle.std.proofs.Common.{◌≡◌, ◌⊎◌, inl, inr, ◌≤◌, ◌<◌, ◌^◌, ℕ, Bool, List, [], ◌++◌, length, Ok, Err, refl, sym, ap, subst, ◌∙◌, arith}
+use Rattle.std.proofs.Common.{◌≡◌, inl, inr, ◌<◌, ◌^◌, ℕ, Bool, List, ◌++◌, length, Ok, Err, refl, sym, subst, arith}
 use Rattle.std.specs.declared.result.Result.{Result}
 use Rattle.pulse_ids.specs.Ids.{WireId}
 use Rattle.pulse_ids.specs.Lists.{IsIn}
@@ -20,7 +20,7 @@ use Rattle.xsfq_cli.specs.Answering.{IsOrNoMemory}
 use Rattle.xsfq_cli.specs.Halves.{Emits, Reads}
 use Rattle.xsfq_cli.specs.Judgements.{Writes}
 use Rattle.xsfq_cli.specs.Laws.{RefusalsAreOfBytes, SimulatedLaw}
-use Rattle.run_outcomes.specs.Outcomes.{IsEnding, IsRefusal}
+use Rattle.run_outcomes.specs.Outcomes.{IsEnding}
 use Rattle.xsfq_cli.specs.Simulated.{HasInput, has_scripts, in_outcomes, input_shown, IsInputBy, IsSimulation, IsSoundInputOr, SaysInput, Simulates}
 use Rattle.xsfq_cli.specs.Table.{AnswersOrder, Ends, Input, Output, ReadWhole, Wrote}
 use Rattle.xsfq_cli.proofs.TableLaws.{refusal_apart}
@@ -62,13 +62,15 @@ module _ (schedule : Schedule) (trace : Bool) (input : Input) (output : Output) 
     (rails : RailLaw) (netlist : IsNetlist read.net) (has_read : Reads (input_shown (has_scripts schedule)) (HasInput (has_scripts schedule)) input (Ok read)) where
   as_read : (text : List ℕ) (ending : Outcome) → Simulates schedule trace (record { net = net; vectors = read.vectors }) text ending
       → Writes (Simulate schedule trace) has_read.0 text ending
-  as_read text ending told =
-      (read, record {
-        has = has_read.2;
-        netlist = netlist;
-        pulses = rails read.net (found_sound _ read has_read.2);
-        simulates = subst (λ (n : PlainNetlist). Simulates schedule trace (record { net = n; vectors = read.vectors }) text ending) same told;
-      })
+  as_read text ending told = (
+    read,
+    record {
+      has = has_read.2;
+      netlist = netlist;
+      pulses = rails read.net (found_sound _ read has_read.2);
+      simulates = subst (λ (n : PlainNetlist). Simulates schedule trace (record { net = n; vectors = read.vectors }) text ending) same told;
+    },
+  )
 
   pub simulated : (outcome : Outcome) → Emits {E = Failed} (Simulates schedule trace (record { net = net; vectors = read.vectors })) output (Ok outcome)
       → AnswersOrder (Simulate schedule trace) input output outcome

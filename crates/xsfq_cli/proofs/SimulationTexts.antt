@@ -1,12 +1,11 @@
 -- The text of a simulation is one, and without a trace the same in every order.
-use Rattle.std.proofs.Common.{◌≡◌, ◌+◌, ℕ, Bool, true, false, Option, Some, None, List, [], ◌∷◌, map, length, Ok, Err, refl, sym, ap, subst, ◌∙◌, inl, inr}
+use Rattle.std.proofs.Common.{◌≡◌, ◌+◌, ℕ, Bool, true, false, Some, None, List, [], ◌∷◌, map, Ok, Err, refl, sym, ap, subst, ◌∙◌, inl, inr}
 use Rattle.std.specs.declared.result.Result.{Result}
 use Rattle.pulse_ids.specs.Ids.{WireId}
 use Rattle.pulse_ids.specs.Lists.{IsIn}
 use Rattle.cell_netlist.specs.Netlists.{PlainNetlist}
 use Rattle.cell_netlist.specs.RailEquations.{IsNetRun}
 use Rattle.cell_netlist.specs.Sound.{IsSound}
-use Rattle.pulse_traces.specs.declared.scripts.CycleFault.{CycleFault}
 use Rattle.pulse_traces.specs.EveryOrder.{CanBeReplayed, SimulatedSaysBits, ReplayedSaysBits, FaultlessIsWhole, OneSimulation, OneReplayed}
 use Rattle.pulse_traces.specs.RunTexts.{run_text}
 use Rattle.pulse_traces.specs.Scripts.{scripted_from, scripted}

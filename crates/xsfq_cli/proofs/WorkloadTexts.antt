@@ -1,9 +1,9 @@
 -- The text of a workload is the netlist that `compile` makes of the counter's text, and one summary of it.
-use Rattle.std.proofs.Common.{◌≡◌, ◌≤◌, ◌++◌, ℕ, Bool, true, List, [], ◌∷◌, replicate, Ok, Err, refl, sym, ap, subst, ◌∙◌}
+use Rattle.std.proofs.Common.{◌≡◌, ◌≤◌, ℕ, Bool, true, List, [], ◌∷◌, replicate, Ok, refl, sym, subst}
 use Rattle.source_machine.specs.declared.unset.Unset.TheVariants.{Refuse}
 use Rattle.source_machine.specs.Grounding.{IsWellFounded}
 use Rattle.source_machine.specs.Machines.{PlainMachine}
-use Rattle.aiger_reader.specs.Sources.{judgement, IsVerdictOf}
+use Rattle.aiger_reader.specs.Sources.{IsVerdictOf}
 use Rattle.cell_netlist.specs.declared.kinds.Ask.TheVariants.{Pos}
 use Rattle.cell_netlist.specs.Netlists.{PlainNetlist}
 use Rattle.counter_sources.specs.Sources.{counter_text, CountersAreRead}
@@ -19,7 +19,7 @@ use Rattle.xsfq_cli.specs.declared.workloads.Work.{Work}
 use Rattle.xsfq_cli.specs.Headline.{IsNetOf}
 use Rattle.xsfq_cli.specs.Laws.{OneVerdict}
 use Rattle.xsfq_cli.specs.Sources.{kind_of, Aiger, HasVerdict}
-use Rattle.xsfq_cli.specs.Workloads.{IsDone, work_text}
+use Rattle.xsfq_cli.specs.Workloads.{work_text}
 use Rattle.xsfq_cli.specs.WorkloadTexts.{WorkloadIsCompiled, CounterIsCompiled, OneWorkText}
 
 -- a counter's text begins as AIGER does

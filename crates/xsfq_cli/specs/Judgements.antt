@@ -1,5 +1,5 @@
 -- What each command makes of its input. A new command adds a line to each definition.
-use Rattle.std.specs.Prelude.{◌≡◌, ◌+◌, ℕ, Bool, true, false, List, Option, None, Ok, Err}
+use Rattle.std.specs.Prelude.{◌≡◌, ◌+◌, ℕ, Bool, true, false, List, Option, None, Err}
 use Rattle.pulse_ids.specs.Quantities.{greatest_of}
 use Rattle.pulse_ids.specs.declared.quantities.Quantity.TheVariants.{NetBytes, SourceBytes, TailBytes}
 use Rattle.cell_netlist.specs.Netlists.{PlainNetlist}

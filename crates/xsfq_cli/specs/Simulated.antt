@@ -1,7 +1,7 @@
 -- What the input of `simulate` is judged to be, and what is written for it.
 use Rattle.std.specs.Prelude.{◌≡◌, ℕ, Bool, true, false, List, Option, Some, None, Result, Ok, Err, option_map}
 use Rattle.cell_netlist.specs.declared.unsound.Unsound.{Unsound}
-use Rattle.cell_netlist.specs.Netlists.{PlainNetlist, IsNetlist}
+use Rattle.cell_netlist.specs.Netlists.{IsNetlist}
 use Rattle.cell_netlist.specs.Sound.{IsFirstUnsound, IsSound}
 use Rattle.pulse_world.specs.RailPulses.{PulsesAsItsRuns}
 use Rattle.pulse_traces.specs.declared.scripts.CycleFault.{CycleFault}
@@ -9,7 +9,6 @@ use Rattle.pulse_traces.specs.Scripts.{IsReplayed, scripted}
 use Rattle.pulse_traces.specs.SimulationTexts.{simulation_text}
 use Rattle.pulse_traces.specs.Simulations.{IsSimulated}
 use Rattle.schedule_replay.specs.Orders.{Cycle}
-use Rattle.schedule_replay.specs.PlainVectors.{PlainVectors}
 use Rattle.simulation_reader.specs.declared.readers.SimulationInput.{SimulationInput}
 use Rattle.simulation_reader.specs.declared.refusals.InputRefusal.{InputRefusal}
 use Rattle.simulation_reader.specs.InputTexts.{early, judgement}

@@ -44,7 +44,7 @@ impl Command for Check {
     fn prepare<S: Source>(self, alloc: Global, input: &mut S) -> Result<SoundNet, Outcome> {
         // The laws that the clause rests on; these calls do nothing.
         texts_are_read();
-            every_order();
+        every_order();
         let net = read_sound(alloc, input)?;
         let _ = net.net().wires();
         Ok(net)

@@ -58,7 +58,7 @@ impl Command for MakeReport {
         let told = reported(alloc, net)?;
         // The laws that the clause rests on; these calls do nothing.
         texts_are_read();
-            every_order();
+        every_order();
         Ok(told)
     }
 

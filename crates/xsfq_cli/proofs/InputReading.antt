@@ -1,5 +1,5 @@
 -- The reader of inputs of `simulate`: what is shown early stands, and is the judgement.
-use Rattle.std.proofs.Common.{◌≡◌, ◌⊎◌, inl, inr, ℕ, Bool, List, [], ◌++◌, Option, Some, None, Result, Ok, Err, refl, sym, ap, subst, ◌∙◌}
+use Rattle.std.proofs.Common.{◌≡◌, ◌⊎◌, inl, inr, ℕ, Bool, List, ◌++◌, Option, Some, None, Ok, Err, refl, sym, ap, subst, ◌∙◌}
 use Rattle.std.specs.Prelude.{option_map}
 use Rattle.netlist_reader.specs.declared.refusals.NetRefusal.TheVariants as net_refusals
 use Rattle.schedule_replay.specs.declared.refusals.VectorRefusal.TheVariants as vector_refusals
@@ -9,10 +9,10 @@ use Rattle.simulation_reader.specs.declared.refusals.InputRefusal.{InputRefusal}
 use Rattle.simulation_reader.specs.declared.refusals.InputRefusal.TheVariants.{Net, Vectors}
 use Rattle.simulation_reader.specs.InputTexts.{early, judgement}
 use Rattle.simulation_reader.specs.Laws.{EarlyStands}
-use Rattle.simulation_reader.specs.Reading.{Answers, HasTaken, IsVerdict, OrMemory}
+use Rattle.simulation_reader.specs.Reading.{HasTaken, OrMemory}
 use Rattle.run_outcomes.specs.declared.outcomes.Outcome.{Outcome}
 use Rattle.run_outcomes.specs.declared.outcomes.Outcome.TheVariants as outcomes
-use Rattle.xsfq_cli.specs.Answering.{IsEarly, IsOrNoMemory, Tells}
+use Rattle.xsfq_cli.specs.Answering.{IsEarly}
 use Rattle.run_outcomes.specs.Outcomes.{input_outcome}
 use Rattle.xsfq_cli.specs.Simulated.{in_outcomes, input_said, input_shown, SaysInput}
 

@@ -1,14 +1,16 @@
 -- The text of a simulation is one, and without a trace the same in every order.
-use Rattle.std.proofs.Common.{◌≡◌, ◌+◌, ℕ, Bool, true, false, Some, None, List, [], ◌∷◌, map, Ok, Err, refl, sym, ap, subst, ◌∙◌, inl, inr}
+use Rattle.std.proofs.Common.{◌≡◌, Option, ◌+◌, ℕ, Bool, true, false, Some, None, List, [], ◌∷◌, map, Ok, Err, refl, sym, ap, subst, ◌∙◌, inl, inr, ◌++◌, length, take}
 use Rattle.std.specs.declared.result.Result.{Result}
 use Rattle.pulse_ids.specs.Ids.{WireId}
 use Rattle.pulse_ids.specs.Lists.{IsIn}
+use Rattle.pulse_world.specs.Worlds.{PlainWorld}
 use Rattle.cell_netlist.specs.Netlists.{PlainNetlist}
 use Rattle.cell_netlist.specs.RailEquations.{IsNetRun}
 use Rattle.cell_netlist.specs.Sound.{IsSound}
+use Rattle.pulse_traces.specs.declared.scripts.CycleFault.{CycleFault}
 use Rattle.pulse_traces.specs.EveryOrder.{CanBeReplayed, SimulatedSaysBits, ReplayedSaysBits, FaultlessIsWhole, OneSimulation, OneReplayed}
 use Rattle.pulse_traces.specs.RunTexts.{run_text}
-use Rattle.pulse_traces.specs.Scripts.{scripted_from, scripted}
+use Rattle.pulse_traces.specs.Scripts.{IsReplayed, StopsAt, scripted_from, scripted}
 use Rattle.pulse_traces.specs.SimulationTexts.{simulation_text}
 use Rattle.run_outcomes.specs.declared.outcomes.Outcome.{Outcome}
 use Rattle.run_outcomes.specs.declared.outcomes.Outcome.TheVariants as outcomes
@@ -20,7 +22,7 @@ use Rattle.xsfq_cli.specs.declared.orders.Schedule.{Schedule}
 use Rattle.xsfq_cli.specs.declared.orders.Schedule.TheVariants.{Order, Script}
 use Rattle.xsfq_cli.specs.declared.simulation_inputs.SoundInput.{SoundInput}
 use Rattle.xsfq_cli.specs.Simulated.{ending_of, has_scripts, input_said, IsInputBy, IsSimulation, Simulates}
-use Rattle.xsfq_cli.specs.SimulationTexts.{TextSaysBits, SchedulesAgree, OneSimulationText}
+use Rattle.xsfq_cli.specs.SimulationTexts.{TextSaysBits, FaultedTextSaysBits, SchedulesAgree, OneSimulationText}
 use Rattle.xsfq_cli.proofs.SimulationLaws.{found_sound, vectors_fit}
 
 -- the cycles that are asked for have the vectors
@@ -33,6 +35,12 @@ asked-in : (number : ℕ) (vectors : List (List Bool)) (scripts : List (List Wir
 asked-in number [] scripts cycle i = absurd i
 asked-in number (vector ∷ vectors) scripts cycle (inl e) = inl (ap vector_of e)
 asked-in number (vector ∷ vectors) scripts cycle (inr i) = inr (asked-in (number + 1) vectors scripts cycle i)
+
+-- the vectors of the first cycles
+front-vectors : (made left : List Cycle) → take (length made) (map vector_of (made ++ left)) ≡ map vector_of made
+front-vectors [] [] = refl
+front-vectors [] (cycle ∷ left) = refl
+front-vectors (cycle ∷ made) left = ap (λ l. cycle.vector ∷ l) (front-vectors made left)
 
 module _ (ordered : SimulatedSaysBits) (replayed : ReplayedSaysBits) (whole : FaultlessIsWhole) where
   says : (schedule : Schedule) (input : SoundInput) (text : List ℕ) → IsSound input.net → Simulates schedule false input text outcomes.Done
@@ -48,6 +56,29 @@ module _ (ordered : SimulatedSaysBits) (replayed : ReplayedSaysBits) (whole : Fa
   pub text_says_bits : TextSaysBits
   text_says_bits schedule bytes input text is run is_run =
       says schedule input text (found_sound (input_said (has_scripts schedule) bytes) input is.has) is.simulates run is_run
+
+  -- the cycle of the fault is the number of the cycles that were made
+  stopped-at : (number : ℕ) (world : PlainWorld) (left : List Cycle) (fault : CycleFault) → StopsAt number world left (Some fault) → fault.cycle ≡ number
+  stopped-at number world [] fault none = absurd none
+  stopped-at number world (cycle ∷ left) fault (e, fails) = e
+
+  pub faulted_text_says_bits : FaultedTextSaysBits
+  faulted_text_says_bits bytes input text cycle phase fault is run is_run =
+      let made = is.simulates.0 in
+      let told = is.simulates.1 in go made told is.simulates.2 is.simulates.3 is.simulates.4
+    where
+      go : (made : List Cycle) (told : Option CycleFault) → IsReplayed input.net (scripted input.vectors) made told → text ≡ simulation_text false input.net made
+          → outcomes.Script cycle phase fault ≡ ending_of told → text ≡ run_text input.net run
+      go made None replay text_is ending = absurd cc
+      go made (Some stop) replay text_is ending =
+          let number : stop.cycle ≡ cycle = cc in
+          let count : cycle ≡ length made = sym number ∙ stopped-at (length made) replay.up_to.last replay.up_to.left stop replay.up_to.stops in
+          let all : input.vectors.vectors ≡ map vector_of (made ++ replay.up_to.left) =
+          sym (vectors-of 0 input.vectors.vectors input.vectors.scripts) ∙ ap (map vector_of) replay.up_to.parts in
+          let same : take cycle input.vectors.vectors ≡ map vector_of made =
+          ap (λ n. take n input.vectors.vectors) count ∙ (ap (λ (vs : List (List Bool)). take (length made) vs) all ∙ front-vectors made replay.up_to.left) in
+          text_is ∙ replayed input.net (scripted input.vectors) made (Some stop) (found_sound (input_said true bytes) input is.has) replay run
+          (subst (λ vs. IsNetRun input.net vs run) same is_run)
 
   pub schedules_agree : SchedulesAgree
   schedules_agree schedule also bytes more input other text texts one two net_is vectors_are =

@@ -1,10 +1,13 @@
 -- What the text of `simulate` is: one for an input, and without a trace the same in every order.
-use Rattle.std.specs.Prelude.{◌≡◌, ℕ, Bool, false, List}
+use Rattle.std.specs.Prelude.{◌≡◌, ℕ, Bool, false, List, take}
+use Rattle.cell_netlist.specs.declared.kinds.Phase.{Phase}
 use Rattle.cell_netlist.specs.RailEquations.{IsNetRun}
 use Rattle.pulse_traces.specs.RunTexts.{run_text}
 use Rattle.run_outcomes.specs.declared.outcomes.Outcome.{Outcome}
 use Rattle.run_outcomes.specs.declared.outcomes.Outcome.TheVariants as outcomes
+use Rattle.schedule_replay.specs.declared.replaying.ScriptFault.{ScriptFault}
 use Rattle.xsfq_cli.specs.declared.orders.Schedule.{Schedule}
+use Rattle.xsfq_cli.specs.declared.orders.Schedule.TheVariants.{Script}
 use Rattle.xsfq_cli.specs.declared.simulation_inputs.SoundInput.{SoundInput}
 use Rattle.xsfq_cli.specs.Simulated.{IsSimulation}
 
@@ -14,6 +17,13 @@ abbrev pub TextSaysBits : Type 0
 TextSaysBits =
     (schedule : Schedule) (bytes : List ℕ) (input : SoundInput) (text : List ℕ) → IsSimulation schedule false bytes input text outcomes.Done
     → (run : List (List Bool)) → IsNetRun input.net input.vectors.vectors run → text ≡ run_text input.net run
+
+-- Where a script has a fault, the text is that of a run on the vectors of the cycles before the faulty one.
+abbrev pub FaultedTextSaysBits : Type 0
+FaultedTextSaysBits =
+    (bytes : List ℕ) (input : SoundInput) (text : List ℕ) (cycle : ℕ) (phase : Phase) (fault : ScriptFault)
+    → IsSimulation Script false bytes input text (outcomes.Script cycle phase fault)
+    → (run : List (List Bool)) → IsNetRun input.net (take cycle input.vectors.vectors) run → text ≡ run_text input.net run
 
 -- So of one netlist and the same vectors it is the same text, however the pulses are delivered.
 abbrev pub SchedulesAgree : Type 0

@@ -4,7 +4,7 @@ ghost use Rattle.netlist_reader.specs.Laws.{EarlyStands};
 ghost use Rattle.simulation_reader.specs.Laws as inputs;
 ghost use Rattle.xsfq_cli.specs.Laws.{AcceptedLaw, BoundedLaw, CheckedLaw, DoneLaw, MachineLaw, OneRefusal, OneVerdict, OnlyRefusedLaw, ReadFaultLaw, RefusalsAreOfBytes, RefusedHasNoText, RefusedLaw, ShownIsRefused, SimulatedLaw, SoundLaw, UnsoundLaw, UnreadLaw, UnwrittenLaw, UsageLaw, WorkloadLaw, WriteFaultLaw};
 ghost use Rattle.xsfq_cli.specs.Examples.{WordsAreOrders};
-ghost use Rattle.xsfq_cli.specs.SimulationTexts.{TextSaysBits, SchedulesAgree, OneSimulationText};
+ghost use Rattle.xsfq_cli.specs.SimulationTexts.{TextSaysBits, FaultedTextSaysBits, SchedulesAgree, OneSimulationText};
 ghost use Rattle.xsfq_cli.specs.WorkloadTexts.{WorkloadIsCompiled, CounterIsCompiled, OneWorkText};
 ghost use Rattle.xsfq_cli.specs.ReportLaws.{OneReportText, ReportedLaw, SoundIsReported, UnsoundIsNotReported};
 
@@ -109,11 +109,12 @@ pub fn netlists_are_reported()
 
 /// What stands after `Done` of `simulate`, and after a script's fault. An input has one text by each schedule. Without a
 /// trace, the text that ends with `Done` is that of the bits which a run of the rail equations carries, and so the same in
-/// every order and by every script.
+/// every order and by every script; where a script has a fault, it is that of the cycles before the faulty one.
 pub fn netlists_are_simulated()
     ensures done { SimulatedLaw }
     ensures one { OneSimulationText }
     ensures bits { TextSaysBits }
+    ensures faulted { FaultedTextSaysBits }
     ensures agree { SchedulesAgree }
 {
     one_judgement();

@@ -18,3 +18,13 @@ pub mod LineTellings
 pub mod RowTellings
 pub mod SourceTellings
 pub mod OfBytes
+pub mod Checking
+pub mod NewNets
+pub mod TiedStates
+pub mod WordChecks
+pub mod LatchChecks
+pub mod RowChecks
+pub mod OpenLines
+pub mod LineChecks
+pub mod TextChecks
+pub mod FirstRefusals

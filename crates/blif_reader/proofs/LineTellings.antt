@@ -70,7 +70,7 @@ pub either_known : {A : Type 0} (Q : Type 0) (b : Bool) (x y : Result A LineRefu
 either_known Q true x y value h f g = f refl h
 either_known Q false x y value h f g = g refl h
 
-is_keyword : (first keyword : List ℕ) → bytes_eq first keyword ≡ true → first ≡ keyword
+pub is_keyword : (first keyword : List ℕ) → bytes_eq first keyword ≡ true → first ≡ keyword
 is_keyword first keyword h = (bytes_eq-Decides first keyword).0 h
 
 -- says_input and its like as what a line says

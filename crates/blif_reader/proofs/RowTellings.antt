@@ -24,7 +24,7 @@ use Rattle.blif_reader.proofs.Sayings.{Said, nothing_said, said_in, Tells, tells
 use Rattle.blif_reader.proofs.LineTellings.{open_told, OpenAgrees, none_agree, closed_equations, LineTells, DotTells, either_known, unsaid, statement_tells}
 
 -- a word that begins with no dot is none that begins with one
-not_keyword : (first keyword : List ℕ) → (slice_index first 0 == 46) ≡ false → (slice_index keyword 0 == 46) ≡ true → bytes_eq first keyword ≡ false
+pub not_keyword : (first keyword : List ℕ) → (slice_index first 0 == 46) ≡ false → (slice_index keyword 0 == 46) ≡ true → bytes_eq first keyword ≡ false
 not_keyword first keyword e f = by_same (bytes_eq first keyword) refl
   where
     by_same : (same : Bool) → bytes_eq first keyword ≡ same → same ≡ false

@@ -18,8 +18,8 @@ use Rattle.source_machine.specs.declared.places.Place.TheVariants.{Whole}
 use Rattle.blif_reader.specs.States.{BlifState, OpenEquation, nothing_read, closed, with_open}
 use Rattle.blif_reader.specs.Statements.{text_line_read}
 use Rattle.blif_reader.specs.Sources.{PlainSource, source_of, shown_as, refusal_at, line_read, lines_read, all_logical_lines, limit, fault_at, clock_cause, unless_clocked, source_read, early, judgement}
-use Rattle.blif_reader.specs.Tellings.{names_in, nets_told, rows_under, equations_told, has_words, AllRowsAgree, machine_told, source_told, words_of}
-use Rattle.blif_reader.specs.Laws.{IsTold, FirstRefused}
+use Rattle.blif_reader.specs.Tellings.{names_in, nets_told, rows_under, equations_told, clock_told, clock_words, has_words, AllRowsAgree, machine_told, source_told, words_of}
+use Rattle.blif_reader.specs.Laws.{FirstRefused}
 use Rattle.blif_reader.proofs.Taking.{read_refused}
 use Rattle.blif_reader.proofs.FirstNames.{joined_firsts, Extends, extends_on, extends_joined}
 use Rattle.blif_reader.proofs.Sayings.{said_in, said_by, Tells, tells_on, tells_nothing}
@@ -37,12 +37,21 @@ made nets inputs latches equations outputs input_names output_names = record {
   output_names = output_names;
 }
 
-record LinesTell (unset : Unset) (state next : BlifState) (lines : List (List (List ℕ))) : Type 0 where
-  tells : Tells state next (said_by unset lines)
+pub record LinesTell (unset : Unset) (state next : BlifState) (lines : List (List (List ℕ))) : Type 0 where
+  pub tells : Tells state next (said_by unset lines)
   equations : (big : List (List ℕ)) → Extends next.nets big
       → next.machine.equations ++ open_told next.unended [] ≡ state.machine.equations ++ (open_told state.unended (rows_under lines) ++ equations_told big lines)
-  modelled : next.modelled ≡ (state.modelled || list_any (λ line. has_words line) lines)
+  pub modelled : next.modelled ≡ (state.modelled || list_any (λ line. has_words line) lines)
   agrees : OpenAgrees state.unended (rows_under lines) × AllRowsAgree lines
+
+-- what was built of lines, and how their rows agree
+pub record IsBuilt (unset : Unset) (lines : List (List (List ℕ))) (state : BlifState) : Type 0 where
+  pub nets : state.nets ≡ nets_told lines
+  pub source : source_of (closed state) ≡ source_told unset lines
+  pub rows : AllRowsAgree lines
+  pub clock : state.clock ≡ clock_told lines
+  pub clocked : state.clocked ≡ has_words (flat_map clock_words lines)
+  pub modelled : state.modelled ≡ list_any (λ line. has_words line) lines
 
 module _ (unset : Unset) where
   -- a line's result is read on, where the lines are
@@ -52,7 +61,7 @@ module _ (unset : Unset) where
   goes_on Q number (Err refusal) lines next h f =
       let k : ◌≡◌ {A = Result BlifState BlifRefusal} (Err (refusal_at number refusal)) (Ok next) = sym (read_refused unset (refusal_at number refusal) lines) ∙ h in absurd cc
 
-  lines_tell : (lines : List LogicalLine) (state next : BlifState) → lines_read unset (Ok state) lines ≡ Ok next → LinesTell unset state next (words_of lines)
+  pub lines_tell : (lines : List LogicalLine) (state next : BlifState) → lines_read unset (Ok state) lines ≡ Ok next → LinesTell unset state next (words_of lines)
   lines_tell [] state next h =
       let is : state ≡ next = cc in
       subst (λ (s : BlifState). LinesTell unset state s []) is (record {
@@ -80,7 +89,7 @@ module _ (unset : Unset) where
   whole_machine nets machine None = ap (λ (l : List PlainEquation). record machine { nets = nets; equations = l }) (closed_equations machine None)
   whole_machine nets machine (Some unended) = ap (λ (l : List PlainEquation). record machine { nets = nets; equations = l }) (closed_equations machine (Some unended))
 
-  pub lines_told : (lines : List LogicalLine) (state : BlifState) → lines_read unset (Ok nothing_read) lines ≡ Ok state → IsTold unset (words_of lines) state
+  pub lines_told : (lines : List LogicalLine) (state : BlifState) → lines_read unset (Ok nothing_read) lines ≡ Ok state → IsBuilt unset (words_of lines) state
   lines_told lines state h =
       let all : List (List (List ℕ)) = words_of lines in
       let t = lines_tell lines nothing_read state h in

@@ -8,4 +8,6 @@ pub mod Sources
 pub mod Bounds
 pub mod Readings
 pub mod Tellings
+pub mod LineRefusals
+pub mod ToldVerdicts
 pub mod Laws

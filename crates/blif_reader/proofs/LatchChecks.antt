@@ -117,13 +117,19 @@ module _ (unset : Unset) (lines : List (List (List ℕ))) (start : BlifState) (t
       → is_some given ≡ (is_fixed value || is_some (first_bit unset))
       → Meets (latch_added state middle nets input output given) (first_failed (fails_where (not (is_fixed value || is_some (first_bit unset))) (causes.NoFixedInit output) ∷ [])) (Latches words)
   added_by state words middle nets input output value None t e = rw (sym e) refl
-  added_by state words middle nets input output value (Some bit) t e = rw (sym e) (refl, (record {
-    typed = t.typed;
-    ended = t.ended_is ∙ sym (or-false start.ended);
-    model = t.model ∙ sym (or-false start.modelled);
-    size = omega (arith, t.size);
-    latches = length_push state.machine.latches _ ∙ ap (λ m. length m.latches + 1) t.machine;
-  }, subst (λ o. OpenIs o None) (sym (t.unended ∙ ended)) tt))
+  added_by state words middle nets input output value (Some bit) t e = rw (sym e) (
+    refl,
+    (
+      record {
+        typed = t.typed;
+        ended = t.ended_is ∙ sym (or-false start.ended);
+        model = t.model ∙ sym (or-false start.modelled);
+        size = omega (arith, t.size);
+        latches = length_push state.machine.latches _ ∙ ap (λ m. length m.latches + 1) t.machine;
+      },
+      subst (λ o. OpenIs o None) (sym (t.unended ∙ ended)) tt,
+    ),
+  )
 
   latch_meets : (state : BlifState) (words : List (List ℕ)) (input output value : List ℕ) (init : Option Bool) → Typed state words → is_some init ≡ is_fixed value
       → Meets (latch_read unset state input output init) (first_failed (latch_checks unset lines input output value)) (Latches words)

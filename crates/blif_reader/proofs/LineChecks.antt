@@ -36,13 +36,16 @@ module _ (unset : Unset) (lines : List (List (List ℕ))) (state : BlifState) (t
   Then line next = Adds start next line × OpenIs next.unended (opened line [])
 
   begins_model : (words : List (List ℕ)) → state.modelled ≡ false → Then (codes ".model" ∷ words) (record start { modelled = true })
-  begins_model words e = (record {
-    typed = λ kinds controls t. subst (λ (l : List (List ℕ)). TypedIs start.typed l (controls ++ [])) (sym (append-nil kinds)) (subst (λ (l : List (List ℕ)). TypedIs start.typed kinds l) (sym (append-nil controls)) t);
-    ended = sym (or-false state.ended);
-    model = sym (or-true state.modelled);
-    size = omega arith;
-    latches = omega arith;
-  }, tt)
+  begins_model words e = (
+    record {
+      typed = λ kinds controls t. subst (λ (l : List (List ℕ)). TypedIs start.typed l (controls ++ [])) (sym (append-nil kinds)) (subst (λ (l : List (List ℕ)). TypedIs start.typed kinds l) (sym (append-nil controls)) t);
+      ended = sym (or-false state.ended);
+      model = sym (or-true state.modelled);
+      size = omega arith;
+      latches = omega arith;
+    },
+    tt,
+  )
 
   model_meets : (words : List (List ℕ)) → Meets (model_read start words) (model_refused lines words) (Then (codes ".model" ∷ words))
   model_meets [] =
@@ -57,13 +60,19 @@ module _ (unset : Unset) (lines : List (List (List ℕ))) (state : BlifState) (t
 
   end_meets : (words : List (List ℕ)) → Meets (end_read start words) (fails_where (has_words words) causes.BadWord) (Then (codes ".end" ∷ words))
   end_meets (word ∷ words) = refl
-  end_meets [] = (refl, (record {
-    typed = λ kinds controls t. subst (λ (l : List (List ℕ)). TypedIs start.typed l (controls ++ [])) (sym (append-nil kinds)) (subst (λ (l : List (List ℕ)). TypedIs start.typed kinds l) (sym (append-nil controls)) t);
-    ended = sym (or-true state.ended);
-    model = sym (or-false state.modelled);
-    size = omega arith;
-    latches = omega arith;
-  }, tt))
+  end_meets [] = (
+    refl,
+    (
+      record {
+        typed = λ kinds controls t. subst (λ (l : List (List ℕ)). TypedIs start.typed l (controls ++ [])) (sym (append-nil kinds)) (subst (λ (l : List (List ℕ)). TypedIs start.typed kinds l) (sym (append-nil controls)) t);
+        ended = sym (or-true state.ended);
+        model = sym (or-false state.modelled);
+        size = omega arith;
+        latches = omega arith;
+      },
+      tt,
+    ),
+  )
 
   passed : (first : List ℕ) (words : List (List ℕ)) → (slice_index first 0 == 46) ≡ true → bytes_eq first (codes ".model") ≡ false → bytes_eq first (codes ".names") ≡ false
       → bytes_eq first (codes ".latch") ≡ false → bytes_eq first (codes ".end") ≡ false → Then (first ∷ words) start

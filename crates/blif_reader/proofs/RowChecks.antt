@@ -111,17 +111,23 @@ module _ (lines : List (List (List ℕ))) (state : BlifState) (kept : HasKept li
         meets_where Then (has_rows unended.equation.cubes && not (beq unended.equation.on bit)) mixed causes.MixedCover (over quantities.Size count (Ok new)) _
         (mixed_is unended.equation.on bit word e unended.equation.cubes told.rows is.rows is.bits ∙ same) (λ right.
         subst (λ k. Meets (over quantities.Size count (Ok new)) (option_or (above quantities.Size k) None) Then) total
-        (meets_over Then quantities.Size count (Ok new) None (refl, (record {
-          typed = typed;
-          ended = sym (or-false state.ended) ∙ ap (λ b. state.ended || b) (sym end);
-          model = sym (or-false state.modelled) ∙ ap (λ b. state.modelled || b) (sym model);
-          size = omega (arith, size, grown);
-          latches = let h = ap {B = ℕ} (λ b. cond b 1 0) latch in omega (arith, h);
-        }, record {
-          columns = is.columns;
-          rows = length_push unended.equation.cubes (literals_of unended.columns marks) ∙ ap (λ k. k + 1) is.rows ∙ sym (length_push told.rows (first ∷ words));
-          bits = ends_on unended.equation.on bit unended.equation.cubes told.rows (first ∷ words) is.rows is.bits right (ap bit_of last ∙ e);
-        }))))
+        (meets_over Then quantities.Size count (Ok new) None (
+          refl,
+          (
+            record {
+              typed = typed;
+              ended = sym (or-false state.ended) ∙ ap (λ b. state.ended || b) (sym end);
+              model = sym (or-false state.modelled) ∙ ap (λ b. state.modelled || b) (sym model);
+              size = omega (arith, size, grown);
+              latches = let h = ap {B = ℕ} (λ b. cond b 1 0) latch in omega (arith, h);
+            },
+            record {
+              columns = is.columns;
+              rows = length_push unended.equation.cubes (literals_of unended.columns marks) ∙ ap (λ k. k + 1) is.rows ∙ sym (length_push told.rows (first ∷ words));
+              bits = ends_on unended.equation.on bit unended.equation.cubes told.rows (first ∷ words) is.rows is.bits right (ap bit_of last ∙ e);
+            },
+          ),
+        )))
 
     bit_by : (a b : Bool) → cond a (Some false) (cond b (Some true) None) ≡ bit_of word
         → Meets (bit_added state unended marks (cond a (Some false) (cond b (Some true) None))) (option_or (fails_where (not (a || b)) causes.RowShape) after_shape) Then

@@ -84,8 +84,11 @@ module _ (unset : Unset) (lines : List (List (List ℕ))) (state : BlifState) (t
 
   -- a logical line is refused as words tell
   pub text_meets : (text : List ℕ) (line : List (List ℕ)) → has_strange text ≡ list_any has_strange line → Meets (words_read unset state text line) (line_refused unset lines line) (Left line)
-  text_meets text [] e = (refl, (
-    same_adds state state [] (record { typed = refl; ended = refl; model = refl; size = refl; latches = refl }) refl refl refl refl refl refl,
-    subst (λ (o : Option OpenNames). OpenIs state.unended o) (sym (open_empty lines)) open_is,
-  ))
+  text_meets text [] e = (
+    refl,
+    (
+      same_adds state state [] (record { typed = refl; ended = refl; model = refl; size = refl; latches = refl }) refl refl refl refl refl refl,
+      subst (λ (o : Option OpenNames). OpenIs state.unended o) (sym (open_empty lines)) open_is,
+    ),
+  )
   text_meets text (first ∷ words) e = line_meets first words text e

@@ -72,12 +72,15 @@ module _ (lines : List (List (List ℕ))) (start : BlifState) (told : HasTold li
       meets_over Then quantities.NameBytes (length name) _ _
       (meets_net Then state.nets (flat_map names_in lines ++ before) h.nets name _ (count (length (flat_map input_words lines ++ before)))
       (subst (λ k. Meets (over quantities.Inputs (length state.machine.inputs + 1) (Ok new)) (count k) Then) h.ports_are
-      (meets_over Then quantities.Inputs (length state.machine.inputs + 1) (Ok new) None (refl, record {
-        nets = nets_on state before name h.nets;
-        ports_are = length_push state.machine.inputs (number_for state.nets name) ∙ ap (λ k. k + 1) h.ports_are ∙ count_on (flat_map input_words lines) before name;
-        same = record { typed = h.same.typed; ended = h.same.ended; model = h.same.model; size = h.same.size; latches = h.same.latches };
-        unended = h.unended;
-      }))))
+      (meets_over Then quantities.Inputs (length state.machine.inputs + 1) (Ok new) None (
+        refl,
+        record {
+          nets = nets_on state before name h.nets;
+          ports_are = length_push state.machine.inputs (number_for state.nets name) ∙ ap (λ k. k + 1) h.ports_are ∙ count_on (flat_map input_words lines) before name;
+          same = record { typed = h.same.typed; ended = h.same.ended; model = h.same.model; size = h.same.size; latches = h.same.latches };
+          unended = h.unended;
+        },
+      ))))
 
   output_meets : (before : List (List ℕ)) (state : BlifState) (name : List ℕ) → Outputs before state → Meets (output_read state name) (output_refused lines before name) (Outputs (before ++ name ∷ []))
   output_meets before state name h =
@@ -87,12 +90,15 @@ module _ (lines : List (List (List ℕ))) (start : BlifState) (told : HasTold li
       meets_over Then quantities.NameBytes (length name) _ _
       (meets_net Then state.nets (flat_map names_in lines ++ before) h.nets name _ (count (length (flat_map output_words lines ++ before)))
       (subst (λ k. Meets (over quantities.Outputs (length state.machine.outputs + 1) (Ok new)) (count k) Then) h.ports_are
-      (meets_over Then quantities.Outputs (length state.machine.outputs + 1) (Ok new) None (refl, record {
-        nets = nets_on state before name h.nets;
-        ports_are = length_push state.machine.outputs (record { net = number_for state.nets name; negated = false }) ∙ ap (λ k. k + 1) h.ports_are ∙ count_on (flat_map output_words lines) before name;
-        same = record { typed = h.same.typed; ended = h.same.ended; model = h.same.model; size = h.same.size; latches = h.same.latches };
-        unended = h.unended;
-      }))))
+      (meets_over Then quantities.Outputs (length state.machine.outputs + 1) (Ok new) None (
+        refl,
+        record {
+          nets = nets_on state before name h.nets;
+          ports_are = length_push state.machine.outputs (record { net = number_for state.nets name; negated = false }) ∙ ap (λ k. k + 1) h.ports_are ∙ count_on (flat_map output_words lines) before name;
+          same = record { typed = h.same.typed; ended = h.same.ended; model = h.same.model; size = h.same.size; latches = h.same.latches };
+          unended = h.unended;
+        },
+      ))))
 
   record Clocked (before : List (List ℕ)) (state : BlifState) : Type 0 where
     clock : state.clock ≡ first_of (flat_map clocks_in lines ++ before)
@@ -105,12 +111,15 @@ module _ (lines : List (List (List ℕ))) (start : BlifState) (told : HasTold li
       let new : BlifState = record state { clock = option_or state.clock (Some name); clocked = true } in
       meets_over Then quantities.NameBytes (length name) _ _
       (meets_where Then (differs_in_clock state.clock name) (differs_from_first (flat_map clocks_in lines ++ before) name) causes.MixedClock (Ok new) None
-      (ap (λ (o : Option (List ℕ)). differs_in_clock o name) h.clock ∙ differs_as (flat_map clocks_in lines ++ before) name) (λ e. (refl, record {
-        clock = ap (λ (o : Option (List ℕ)). option_or o (Some name)) h.clock ∙ first_on (flat_map clocks_in lines ++ before) name
-            ∙ ap first_of (append_assoc (flat_map clocks_in lines) before (name ∷ []));
-        same = record { typed = h.same.typed; ended = h.same.ended; model = h.same.model; size = h.same.size; latches = h.same.latches };
-        unended = h.unended;
-      })))
+      (ap (λ (o : Option (List ℕ)). differs_in_clock o name) h.clock ∙ differs_as (flat_map clocks_in lines ++ before) name) (λ e. (
+        refl,
+        record {
+          clock = ap (λ (o : Option (List ℕ)). option_or o (Some name)) h.clock ∙ first_on (flat_map clocks_in lines ++ before) name
+              ∙ ap first_of (append_assoc (flat_map clocks_in lines) before (name ∷ []));
+          same = record { typed = h.same.typed; ended = h.same.ended; model = h.same.model; size = h.same.size; latches = h.same.latches };
+          unended = h.unended;
+        },
+      )))
 
   record Columned (before : List (List ℕ)) (state : BlifState) : Type 0 where
     nets : state.nets ≡ firsts (flat_map names_in lines ++ before)
@@ -121,11 +130,14 @@ module _ (lines : List (List (List ℕ))) (start : BlifState) (told : HasTold li
   column_meets before state name h =
       let Then : BlifState → Type 0 = Columned (before ++ name ∷ []) in
       meets_over Then quantities.NameBytes (length name) _ _
-      (meets_net Then state.nets (flat_map names_in lines ++ before) h.nets name _ None (refl, record {
-        nets = nets_on state before name h.nets;
-        same = record { typed = h.same.typed; ended = h.same.ended; model = h.same.model; size = h.same.size; latches = h.same.latches };
-        begun = begun_on state.unended before name (number_for state.nets name) h.begun;
-      }))
+      (meets_net Then state.nets (flat_map names_in lines ++ before) h.nets name _ None (
+        refl,
+        record {
+          nets = nets_on state before name h.nets;
+          same = record { typed = h.same.typed; ended = h.same.ended; model = h.same.model; size = h.same.size; latches = h.same.latches };
+          begun = begun_on state.unended before name (number_for state.nets name) h.begun;
+        },
+      ))
 
   nothing_changed : Same start start
   nothing_changed = record { typed = refl; ended = refl; model = refl; size = refl; latches = refl }

@@ -260,6 +260,6 @@ line_refused unset lines (first ∷ words) = first_failed (
     ∷ fails_where (not (list_any has_words lines) && not (bytes_eq first (codes ".model"))) NoModel
     ∷ fails_where (list_any is_end lines) (if bytes_eq first (codes ".model") then SecondModel else AfterEnd)
     ∷ (if slice_index first 0 == 46
-      then first_failed (long first ∷ statement_refused unset lines first words ∷ [])
-      else row_refused lines (open_names lines) (first ∷ words))
+    then first_failed (long first ∷ statement_refused unset lines first words ∷ [])
+    else row_refused lines (open_names lines) (first ∷ words))
     ∷ [])

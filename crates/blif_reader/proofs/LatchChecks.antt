@@ -1,5 +1,5 @@
 -- The checks of a latch.
-use Rattle.std.proofs.Common.{◌≡◌, ℕ, ◌+◌, Bool, true, false, not, ◌||◌, ◌&&◌, cond, List, [], ◌∷◌, ◌++◌, length, Option, Some, None, Result, Ok, Err, codes, refl, sym, ap, subst, ◌∙◌, append_assoc, arith}
+use Rattle.std.proofs.Common.{◌≡◌, ℕ, ◌+◌, Bool, true, false, not, ◌||◌, ◌&&◌, cond, List, [], ◌∷◌, ◌++◌, length, Option, Some, None, Result, Ok, Err, codes, refl, sym, ap, subst, ◌∙◌, arith}
 use Rattle.std.specs.Prelude.{filter}
 use Rattle.std.specs.Bool.{beq}
 use Rattle.std.specs.Option.{option_or, is_some}
@@ -9,10 +9,9 @@ use Rattle.std.proofs.lemmas.List.{append-nil, length_push}
 use Rattle.std.proofs.lemmas.Slice.Eq.{bytes_eq-Decides}
 use Rattle.std.proofs.Math.Bool.{or-false}
 use Rattle.pulse_ids.specs.declared.quantities.Quantity.TheVariants as quantities
-use Rattle.numbered_names.specs.Names.{names_with, number_for}
+use Rattle.numbered_names.specs.Names.{names_with}
 use Rattle.source_machine.specs.declared.unset.Unset.{Unset}
 use Rattle.source_machine.specs.Unset.{first_bit}
-use Rattle.source_machine.specs.Machines.{PlainLatch}
 use Rattle.blif_reader.specs.declared.refusals.BlifCause.TheVariants as causes
 use Rattle.blif_reader.specs.declared.refusals.LineRefusal.{LineRefusal}
 use Rattle.blif_reader.specs.declared.refusals.LineRefusal.TheVariants.{Cause}
@@ -20,9 +19,9 @@ use Rattle.blif_reader.specs.declared.latch_kinds.LatchKind.{LatchKind}
 use Rattle.blif_reader.specs.States.{BlifState}
 use Rattle.blif_reader.specs.Refusing.{after, over}
 use Rattle.blif_reader.specs.Latches.{edge_of, first_state, differs_in_type, differs_in_clock, names_clock, is_mixed, with_type, state_given, latch_added, latch_read, untyped_read, typed_read, latch_words_read}
-use Rattle.blif_reader.specs.Tellings.{latch_words, names_in, firsts, clocks_in, first_of}
-use Rattle.blif_reader.specs.LineRefusals.{first_failed, fails_where, above, long, net_above, is_latch, kind_refused, is_fixed, is_unfixed, value_refused, differs_from_first, kind_in, control_of, kinds_told, controls_told, is_mixed_told, latch_checks, untyped_refused, typed_refused, latch_refused}
-use Rattle.blif_reader.proofs.Checking.{Meets, meets_over, meets_where, meets_on, meets_last}
+use Rattle.blif_reader.specs.Tellings.{names_in, firsts, clocks_in}
+use Rattle.blif_reader.specs.LineRefusals.{first_failed, fails_where, above, net_above, is_latch, kind_refused, is_fixed, is_unfixed, value_refused, differs_from_first, kind_in, control_of, kinds_told, controls_told, is_mixed_told, latch_checks, untyped_refused, typed_refused, latch_refused}
+use Rattle.blif_reader.proofs.Checking.{Meets, meets_over, meets_where}
 use Rattle.blif_reader.proofs.NewNets.{firsts_with, meets_net}
 use Rattle.blif_reader.proofs.TiedStates.{HasTold, HasKept, TypedIs, Adds, OpenIs}
 use Rattle.blif_reader.proofs.WordChecks.{differs_as}

@@ -1,31 +1,25 @@
 -- The checks of a line.
-use Rattle.std.proofs.Common.{◌≡◌, ℕ, ◌+◌, ◌<◌, Bool, true, false, not, ◌||◌, ◌&&◌, ◌==◌, cond, ltb, List, [], ◌∷◌, ◌++◌, length, Option, Some, None, Result, Ok, Err, codes, refl, sym, ap, subst, ◌∙◌, arith}
+use Rattle.std.proofs.Common.{◌≡◌, ℕ, true, false, not, ◌==◌, ltb, List, [], ◌∷◌, ◌++◌, length, Option, Some, None, Result, Ok, Err, codes, refl, sym, ap, subst, arith}
 use Rattle.std.specs.Prelude.{slice_index}
-use Rattle.std.specs.Option.{option_or}
 use Rattle.std.specs.Str.{bytes_eq}
 use Rattle.std.specs.List.{list_any}
 use Rattle.std.proofs.lemmas.List.{append-nil}
 use Rattle.std.proofs.lemmas.Bool.{lt-ltb}
 use Rattle.std.proofs.Math.Bool.{or-true, or-false}
 use Rattle.pulse_ids.specs.declared.quantities.Quantity.TheVariants as quantities
-use Rattle.word_scan.specs.Logical.{has_strange}
 use Rattle.source_machine.specs.declared.unset.Unset.{Unset}
-use Rattle.blif_reader.specs.declared.refusals.BlifCause.{BlifCause}
 use Rattle.blif_reader.specs.declared.refusals.BlifCause.TheVariants as causes
 use Rattle.blif_reader.specs.declared.refusals.LineRefusal.{LineRefusal}
 use Rattle.blif_reader.specs.declared.refusals.LineRefusal.TheVariants.{Cause}
-use Rattle.blif_reader.specs.States.{BlifState, OpenEquation, closed}
-use Rattle.blif_reader.specs.Refusing.{unless_long}
-use Rattle.blif_reader.specs.Statements.{model_read, end_read, is_passed_over, statement_read, row_read, words_read}
-use Rattle.blif_reader.specs.Tellings.{latch_words, first_word, has_words, rows_under}
-use Rattle.blif_reader.specs.LineRefusals.{first_failed, fails_where, above, long, is_model, is_end, is_latch, is_dotted, is_row, kind_in, control_of, OpenNames, opened, open_names, model_refused, row_refused, statement_refused, line_refused}
-use Rattle.blif_reader.proofs.Checking.{Meets, meets_over, meets_where, meets_either, meets_on, meets_last}
-use Rattle.blif_reader.proofs.TiedStates.{HasTold, HasKept, TypedIs, Same, Adds, OpenIs, same_adds, closed_told, closed_kept, closed_adds, any_on}
+use Rattle.blif_reader.specs.States.{BlifState, closed}
+use Rattle.blif_reader.specs.Statements.{model_read, end_read, is_passed_over, statement_read}
+use Rattle.blif_reader.specs.Tellings.{has_words}
+use Rattle.blif_reader.specs.LineRefusals.{fails_where, is_model, opened, model_refused, statement_refused}
+use Rattle.blif_reader.proofs.Checking.{Meets, meets_over, meets_where, meets_either}
+use Rattle.blif_reader.proofs.TiedStates.{HasTold, HasKept, TypedIs, Adds, OpenIs, same_adds, closed_told, closed_kept}
 use Rattle.blif_reader.proofs.WordChecks.{inputs_meet, outputs_meet, clocks_meet, names_meet}
 use Rattle.blif_reader.proofs.LatchChecks.{latches_meet}
-use Rattle.blif_reader.proofs.RowChecks.{Leaves, row_meets}
 use Rattle.blif_reader.proofs.LineTellings.{is_keyword}
-use Rattle.blif_reader.proofs.RowTellings.{not_keyword}
 
 module _ (unset : Unset) (lines : List (List (List ℕ))) (state : BlifState) (told : HasTold lines state) (kept : HasKept lines state) where
   abbrev start : BlifState

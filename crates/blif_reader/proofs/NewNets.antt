@@ -14,8 +14,8 @@ use Rattle.blif_reader.specs.Refusing.{after, over}
 use Rattle.blif_reader.specs.Latches.{net_read}
 use Rattle.blif_reader.specs.Tellings.{firsts}
 use Rattle.blif_reader.specs.LineRefusals.{above, net_above}
-use Rattle.blif_reader.proofs.Checking.{Meets, meets_over}
-use Rattle.blif_reader.proofs.FirstNames.{joined, joined_on, joined_firsts}
+use Rattle.blif_reader.proofs.Checking.{Meets}
+use Rattle.blif_reader.proofs.FirstNames.{joined_on, joined_firsts}
 
 -- a name is one of these
 abbrev pub stands_in : List ℕ → List (List ℕ) → Bool

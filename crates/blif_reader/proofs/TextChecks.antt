@@ -1,5 +1,5 @@
 -- The checks of a logical line, whatever its words.
-use Rattle.std.proofs.Common.{◌≡◌, ℕ, Bool, true, false, not, ◌&&◌, ◌==◌, cond, List, [], ◌∷◌, ◌++◌, length, Option, Some, None, Result, Ok, Err, codes, refl, sym, ap, subst, ◌∙◌}
+use Rattle.std.proofs.Common.{◌≡◌, ℕ, Bool, true, false, not, ◌&&◌, ◌==◌, cond, List, [], ◌∷◌, ◌++◌, length, Option, Some, None, codes, refl, sym, ap, subst}
 use Rattle.std.specs.Prelude.{slice_index}
 use Rattle.std.specs.Option.{option_or}
 use Rattle.std.specs.Str.{bytes_eq}
@@ -9,14 +9,13 @@ use Rattle.pulse_ids.specs.declared.quantities.Quantity.TheVariants as quantitie
 use Rattle.word_scan.specs.Logical.{has_strange}
 use Rattle.source_machine.specs.declared.unset.Unset.{Unset}
 use Rattle.blif_reader.specs.declared.refusals.BlifCause.TheVariants as causes
-use Rattle.blif_reader.specs.declared.refusals.LineRefusal.{LineRefusal}
-use Rattle.blif_reader.specs.States.{BlifState, OpenEquation, closed}
+use Rattle.blif_reader.specs.States.{BlifState, closed}
 use Rattle.blif_reader.specs.Refusing.{unless_long}
 use Rattle.blif_reader.specs.Statements.{statement_read, row_read, words_read}
 use Rattle.blif_reader.specs.Tellings.{latch_words, has_words, rows_under}
-use Rattle.blif_reader.specs.LineRefusals.{first_failed, long, is_model, is_end, is_latch, is_dotted, kind_in, control_of, OpenNames, opened, open_names, row_refused, statement_refused, line_refused}
+use Rattle.blif_reader.specs.LineRefusals.{first_failed, long, is_end, kind_in, control_of, OpenNames, open_names, row_refused, statement_refused, line_refused}
 use Rattle.blif_reader.proofs.Checking.{Meets, meets_over, meets_where, meets_either, meets_on, meets_last}
-use Rattle.blif_reader.proofs.TiedStates.{HasTold, HasKept, TypedIs, Same, Adds, OpenIs, same_adds, closed_adds}
+use Rattle.blif_reader.proofs.TiedStates.{HasTold, HasKept, TypedIs, Adds, OpenIs, same_adds, closed_adds}
 use Rattle.blif_reader.proofs.RowChecks.{Leaves, row_meets}
 use Rattle.blif_reader.proofs.LineChecks.{Then, statement_meets}
 use Rattle.blif_reader.proofs.OpenLines.{open_dotted, open_empty, open_row}

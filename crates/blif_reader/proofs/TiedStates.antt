@@ -1,13 +1,12 @@
 -- What the words of lines tell of the state for the checks of the next line.
-use Rattle.std.proofs.Common.{◌≡◌, ℕ, ◌+◌, Bool, true, false, ◌||◌, cond, List, [], ◌∷◌, ◌++◌, length, length-append, Option, Some, None, Result, Ok, Err, refl, sym, ap, subst, ◌∙◌, append_assoc, arith}
+use Rattle.std.proofs.Common.{◌≡◌, ℕ, ◌+◌, Bool, true, false, ◌||◌, cond, List, [], ◌∷◌, ◌++◌, length, Option, Some, None, Ok, refl, sym, ap, subst, ◌∙◌, arith}
 use Rattle.std.specs.Prelude.{⊤, filter}
-use Rattle.std.specs.Option.{option_or}
 use Rattle.std.specs.List.{flat_map, list_any}
 use Rattle.std.proofs.lemmas.List.{append-nil}
 use Rattle.std.proofs.lemmas.List.Concat.{flat_map-append}
 use Rattle.std.proofs.lemmas.List.Folds.{list_any-append}
 use Rattle.std.proofs.Math.Bool.{or-false}
-use Rattle.source_machine.specs.Machines.{PlainMachine, PlainLatch}
+use Rattle.source_machine.specs.Machines.{PlainMachine}
 use Rattle.blif_reader.specs.declared.latch_kinds.LatchKind.{LatchKind}
 use Rattle.blif_reader.specs.Rows.{bit_of}
 use Rattle.blif_reader.specs.States.{BlifState, OpenEquation, closed, with_open}

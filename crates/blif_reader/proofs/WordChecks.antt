@@ -1,24 +1,23 @@
 -- The checks of the names of a line, from the left.
-use Rattle.std.proofs.Common.{◌≡◌, ℕ, ◌+◌, Bool, true, false, cond, List, [], ◌∷◌, ◌++◌, length, Option, Some, None, Result, Ok, Err, codes, refl, sym, ap, subst, ◌∙◌, append_assoc, arith}
+use Rattle.std.proofs.Common.{◌≡◌, ℕ, ◌+◌, true, false, List, [], ◌∷◌, ◌++◌, length, Option, Some, None, Ok, codes, refl, sym, ap, subst, ◌∙◌, append_assoc}
 use Rattle.std.specs.Option.{option_or}
 use Rattle.std.specs.List.{flat_map}
 use Rattle.std.proofs.lemmas.List.{append-nil, length_push}
-use Rattle.pulse_ids.specs.declared.quantities.Quantity.{Quantity}
 use Rattle.pulse_ids.specs.declared.quantities.Quantity.TheVariants as quantities
 use Rattle.numbered_names.specs.Names.{names_with, number_for}
 use Rattle.word_scan.specs.Reading.{read_on}
 use Rattle.source_machine.specs.Additions.{with_input, with_output}
 use Rattle.blif_reader.specs.declared.refusals.BlifCause.TheVariants as causes
 use Rattle.blif_reader.specs.declared.refusals.LineRefusal.{LineRefusal}
-use Rattle.blif_reader.specs.States.{BlifState, OpenEquation, closed, with_column}
+use Rattle.blif_reader.specs.States.{BlifState, OpenEquation, with_column}
 use Rattle.blif_reader.specs.Refusing.{over}
 use Rattle.blif_reader.specs.Latches.{clock_read, differs_in_clock}
 use Rattle.blif_reader.specs.Statements.{input_read, output_read, column_read, names_read}
 use Rattle.blif_reader.specs.Tellings.{input_words, output_words, names_in, firsts, clocks_in, first_of}
-use Rattle.blif_reader.specs.LineRefusals.{above, long, net_above, differs_from_first, each_name, input_refused, output_refused, clock_refused, column_refused, names_refused, OpenNames}
+use Rattle.blif_reader.specs.LineRefusals.{above, differs_from_first, each_name, input_refused, output_refused, clock_refused, column_refused, names_refused}
 use Rattle.blif_reader.proofs.Checking.{Meets, meets_over, meets_where, meets_on, meets_last, words_meet}
 use Rattle.blif_reader.proofs.NewNets.{firsts_with, meets_net}
-use Rattle.blif_reader.proofs.TiedStates.{HasTold, Same, Adds, same_adds, EquationIs, OpenIs}
+use Rattle.blif_reader.proofs.TiedStates.{HasTold, Same, Adds, same_adds, OpenIs}
 
 pub differs_as : (names : List (List ℕ)) (name : List ℕ) → differs_in_clock (first_of names) name ≡ differs_from_first names name
 differs_as [] name = refl

@@ -1,5 +1,5 @@
 -- What holds of all sources.
-use Rattle.std.specs.Prelude.{◌≡◌, ⊤, ◌++◌, ◌∷◌, [], ℕ, List, Option, Some, None, Ok, Err, option_map}
+use Rattle.std.specs.Prelude.{◌≡◌, ⊤, ◌++◌, ◌∷◌, [], ℕ, List, Some, None, Ok, Err, option_map}
 use Rattle.std.specs.List.{flat_map, list_any}
 use Rattle.word_scan.specs.Logical.{LogicalLine, dark_words}
 use Rattle.source_machine.specs.declared.unset.Unset.{Unset}

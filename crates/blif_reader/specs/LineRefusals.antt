@@ -1,6 +1,6 @@
 -- Why a logical line is refused, by its words and those of the lines before it: for each first word the checks in their
 -- order, of which the first one that fails is shown.
-use Rattle.std.specs.Prelude.{ℕ, ◌+◌, ◌-◌, ◌++◌, ◌==◌, Bool, true, false, not, ◌||◌, ◌&&◌, List, [], ◌∷◌, Option, Some, None, length, filter, codes, slice_index, nat_lt, if◌then◌else◌}
+use Rattle.std.specs.Prelude.{ℕ, ◌+◌, ◌-◌, ◌++◌, ◌==◌, Bool, false, not, ◌||◌, ◌&&◌, List, [], ◌∷◌, Option, Some, None, length, filter, codes, slice_index, nat_lt, if◌then◌else◌}
 use Rattle.std.specs.Option.{option_or, is_some}
 use Rattle.std.specs.List.{flat_map, list_any}
 use Rattle.std.specs.Str.{bytes_eq}
@@ -17,7 +17,7 @@ use Rattle.blif_reader.specs.declared.refusals.LineRefusal.TheVariants.{Cause, L
 use Rattle.blif_reader.specs.Rows.{cares_in, are_marks}
 use Rattle.blif_reader.specs.Latches.{names_clock}
 use Rattle.blif_reader.specs.Statements.{is_passed_over}
-use Rattle.blif_reader.specs.Tellings.{input_words, output_words, clock_words, latch_words, words_after, names_in, nets_told, firsts, clocks_in, last_or, first_word, has_words, rows_under}
+use Rattle.blif_reader.specs.Tellings.{input_words, output_words, latch_words, words_after, names_in, firsts, clocks_in, last_or, first_word, has_words, rows_under}
 
 -- the first check that fails, of several in their order
 abbrev pub first_failed : List (Option LineRefusal) → Option LineRefusal

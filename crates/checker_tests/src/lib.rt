@@ -1,4 +1,4 @@
-//! The tests of the checker and of reports over netlists that no text of a case holds. Outside tests there is no code here.
+//! The tests of the checker, of orders of cells and of reports over netlists that no text of a case holds. Outside tests there is no code here.
 #![tactic(auto)]
 
 #[cfg(test)]
@@ -7,3 +7,5 @@ mod chains;
 mod depths;
 #[cfg(test)]
 mod nets;
+#[cfg(test)]
+mod wires;

@@ -13,10 +13,9 @@ use Rattle.junction_report.specs.declared.depths.Measured.TheVariants.{Cells}
 use Rattle.junction_report.specs.Walks.{IsPassing, Drives, IsWalkTo, IsDepth}
 use Rattle.junction_report.specs.Paths.{IsWireDepth}
 use Rattle.junction_report.specs.Depths.{share_of, measure_of, IsGreatestTo}
-use Rattle.junction_report.proofs.Feeding.{one_drives}
-use Rattle.junction_report.proofs.Walking.{same_cell, last_passes, one_share, length_is, greatest_by, greatest_unique}
+use Rattle.cell_orders.proofs.CallerLemmas.{same_cell, one_drives, its_cell, rail_apart}
+use Rattle.junction_report.proofs.Walking.{last_passes, one_share, length_is, greatest_by, greatest_unique}
 use Rattle.junction_report.proofs.Greatest.{IsGreatestInto, IsEntry, greatest_next}
-use Rattle.junction_report.proofs.Reaching.{its_cell, rail_apart}
 
 module _ (net : PlainNetlist) where
   -- a depth is a greatest measure in cells

@@ -9,8 +9,8 @@ use Rattle.cell_netlist.specs.Wired.{IsWired}
 use Rattle.junction_report.specs.declared.depths.Measured.{Measured}
 use Rattle.junction_report.specs.Walks.{IsPassing, Drives, Feeds, IsWalkTo}
 use Rattle.junction_report.specs.Depths.{share_of, measure_of, IsGreatestTo, entry_depth}
-use Rattle.junction_report.proofs.Feeding.{one_drives}
-use Rattle.junction_report.proofs.Walking.{same_cell, alone, append_last, split_last, measure_more, measure_one}
+use Rattle.cell_orders.proofs.CallerLemmas.{same_cell, one_drives}
+use Rattle.junction_report.proofs.Walking.{alone, append_last, split_last, measure_more, measure_one}
 
 -- the greatest measure of the walks that lead into a wire: that of the cell that drives it, and 0 where none does
 abbrev pub IsGreatestInto : PlainNetlist → Measured → ℕ → ℕ → Type 0

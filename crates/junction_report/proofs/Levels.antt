@@ -17,12 +17,10 @@ use Rattle.dependency_order.specs.Orders.{PlainOrder, IsKnown, IsOrderOf}
 use Rattle.junction_report.specs.declared.depths.Measured.{Measured}
 use Rattle.junction_report.specs.declared.depths.Measured.TheVariants.{Cells, Gates}
 use Rattle.junction_report.specs.Walks.{IsPassing}
-use Rattle.junction_report.specs.Needs.{feeding, needs_of_cell, dependencies_of}
+use Rattle.cell_orders.specs.Needs.{feeding, needs_of_cell, dependencies_of}
 use Rattle.junction_report.specs.Depths.{share_of, IsGreatestTo, most, depth_behind, entry_depth, AreDepths}
-use Rattle.junction_report.proofs.Feeding.{passing_below, feeding_drives, drives_feeding, one_drives}
-use Rattle.junction_report.proofs.Walking.{same_cell}
+use Rattle.cell_orders.proofs.CallerLemmas.{same_cell, passing_below, feeding_drives, drives_feeding, one_drives, read_needed, all_in_order, item_at_below, items_few, need_come}
 use Rattle.junction_report.proofs.Greatest.{IsGreatestInto, entry_is, greatest_next}
-use Rattle.junction_report.proofs.Reaching.{need_count, needs_at, yields_at, read_needed, all_in_order}
 
 -- the table is right for the cells that have come in an order, and no depth is above their number
 pub record LevelsTo (net : PlainNetlist) (measured : Measured) (order : List ℕ) (i : ℕ) (table : List ℕ) : Type 0 where
@@ -85,25 +83,7 @@ into_by net wired measured table wire right = go (feeding net wire) refl
         let its : depth_behind net table wire ≡ get_or table b 0 = ap (λ l. most (map (λ x. get_or table x 0) l)) e ∙ same in
         inl (b, drives, subst (λ n. IsGreatestTo net measured b n) (sym its) (right b fed drives.passing))
 
-any_in : (q : ℕ) (xs : List ℕ) → list_any (eqb q) xs ≡ true → IsIn q xs
-any_in q [] e = absurd cc
-any_in q (x ∷ xs) e = go (eqb q x) refl e (any_in q xs)
-  where
-    go : (b : Bool) → eqb q x ≡ b → (b || list_any (eqb q) xs) ≡ true → (list_any (eqb q) xs ≡ true → IsIn q xs) → IsIn q (x ∷ xs)
-    go true t e rest = inl (sym (eqb-true q x t))
-    go false t e rest = inr (rest e)
-
 module _ (net : PlainNetlist) (measured : Measured) (order : PlainOrder) (h : IsOrderOf (dependencies_of net) order) where
-  -- the items are cells, and no more than there are
-  pub item_below : (c : ℕ) → IsIn c order.items → c < length net.cells
-  item_below c i = let lt = ((h.order.exact c).0 (contained-IsIn order.items c i)).0 in omega (arith, lt, need_count net)
-
-  pub item_at_below : (i : ℕ) → i < length order.items → slice_index order.items i < length net.cells
-  item_at_below i low = item_below (slice_index order.items i) (IsIn-at order.items i 0 low)
-
-  pub items_few : length order.items ≤ length net.cells
-  items_few = length-le_from_distinct_below order.items (length net.cells) h.order.once (λ q e. item_below q (any_in q order.items e))
-
   pub levels_begun : (table : List ℕ) → table ≡ replicate (length net.cells) 0 → LevelsTo net measured order.items 0 table
   levels_begun table e = record {
     width = ap length e ∙ length-replicate {A = ℕ} (length net.cells) 0;
@@ -127,24 +107,8 @@ module _ (net : PlainNetlist) (measured : Measured) (order : PlainOrder) (h : Is
       abbrev value : ℕ
       value = share_of measured cell + entry_depth (depth_behind net table) cell
 
-      -- what the cell needs has come
-      known : (b : ℕ) → IsIn b (needs_of_cell net cell) → IsIn b (take i order.items)
-      known b j = go (h.order.ready i low b (contained-IsIn (needs_of (dependencies_of net) c) b (subst (λ l. IsIn b l) (sym (needs_at net c cell at)) j)))
-        where
-          go : IsKnown (dependencies_of net) (take i order.items) b → IsIn b (take i order.items)
-          go (inl s) = absurd (IsIn-contained [] b s)
-          go (inr y) =
-              let earlier = IsIn-contained (take i order.items) y.0 y.1 in
-              let lt = item_below y.0 (IsIn-take y.0 i order.items earlier) in
-              let itself = subst (λ l. IsIn b l) (yields_at net y.0 lt) (IsIn-contained (yields_of (dependencies_of net) y.0) b y.2) in
-              only itself earlier
-            where
-              only : {a : ℕ} → IsIn b (a ∷ []) → IsIn a (take i order.items) → IsIn b (take i order.items)
-              only (inl e) k = subst (λ x. IsIn x (take i order.items)) e k
-              only (inr none) k = absurd none
-
       into : (IsDroc cell → ⊥) → (wire : ℕ) → IsIn wire (reads cell) → IsGreatestInto net measured wire (depth_behind net table wire)
-      into kind wire j = into_by net sound.wired measured table wire (λ b fed p. r.passing b (known b (read_needed net cell wire b kind j fed)) p)
+      into kind wire j = into_by net sound.wired measured table wire (λ b fed p. r.passing b (need_come net order.items h.order i low cell at b (read_needed net cell wire b kind j fed)) p)
 
       value_is : IsPassing net c → IsGreatestTo net measured c value
       value_is p = along p.cell p.at p.kind (same_cell net c p.at at)
@@ -156,7 +120,7 @@ module _ (net : PlainNetlist) (measured : Measured) (order : PlainOrder) (h : Is
               (entry_is net measured (depth_behind net table) cell kind_here (into kind_here))
 
       c_low : c < length table
-      c_low = omega (arith, r.width, item_below c (IsIn-at order.items i 0 low))
+      c_low = omega (arith, r.width, item_at_below net order.items h.order i low)
 
       after : List ℕ
       after = set table c value
@@ -199,5 +163,5 @@ module _ (net : PlainNetlist) (measured : Measured) (order : PlainOrder) (h : Is
       passing = λ c p. r.passing c (subst (λ l. IsIn c l) (sym (take_all n order.items (omega arith)))
           (all_in_order net sound order.items h.order c (passing_below net c p))) p;
       droc = r.droc;
-      small = λ c. omega (arith, r.small c, items_few);
+      small = λ c. omega (arith, r.small c, items_few net order.items h.order);
     }

@@ -1,8 +1,6 @@
 -- The lemmas of this crate.
-pub mod Feeding
 pub mod Walking
 pub mod Greatest
-pub mod Reaching
 pub mod Levels
 pub mod DepthsOfCells
 pub mod Tracing

@@ -8,8 +8,8 @@ use Rattle.cell_netlist.specs.Sound.{IsSound}
 use Rattle.junction_report.specs.declared.depths.Measured.TheVariants.{Cells}
 use Rattle.junction_report.specs.Walks.{Drives, Feeds, IsWalk, EndsIn, IsGreatest, IsDepth}
 use Rattle.junction_report.specs.Paths.{IsWireDepth, IsDeeperPort, ComesBy, StandsBefore, IsTraced, IsPath}
-use Rattle.junction_report.proofs.Feeding.{one_drives}
-use Rattle.junction_report.proofs.Walking.{same_cell, has_last, last_passes, greatest_unique}
+use Rattle.cell_orders.proofs.CallerLemmas.{same_cell, one_drives}
+use Rattle.junction_report.proofs.Walking.{has_last, last_passes, greatest_unique}
 use Rattle.junction_report.proofs.Greatest.{IsGreatestInto, IsEntry}
 use Rattle.junction_report.proofs.DepthsOfCells.{into_of_depth, depth_unique, wire_depth_unique, deep_passes, depth_next, depth_exists}
 

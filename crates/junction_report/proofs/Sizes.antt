@@ -10,12 +10,12 @@ use Rattle.junction_report.specs.declared.depths.Measured.{Measured}
 use Rattle.junction_report.specs.declared.depths.Measured.TheVariants.{Cells, Gates}
 use Rattle.junction_report.specs.Walks.{IsPassing, IsWalk, IsGreatest, gates_on}
 use Rattle.junction_report.specs.Paths.{IsPath}
-use Rattle.junction_report.specs.Needs.{listed}
+use Rattle.cell_orders.specs.Needs.{listed}
 use Rattle.junction_report.specs.Depths.{measure_of, most, AreDepths}
 use Rattle.junction_report.specs.Reports.{numbers_of}
 use Rattle.junction_report.specs.Traces.{IsLast, IsBackTo}
 use Rattle.junction_report.proofs.Walking.{has_last, last_passes, length_is, greatest_by}
-use Rattle.junction_report.proofs.Reaching.{cell_at}
+use Rattle.cell_orders.proofs.CallerLemmas.{cell_at}
 use Rattle.junction_report.proofs.Tracing.{most_at, numbers_reversed, last_passing, path_found}
 use Rattle.junction_report.proofs.Lowest.{most_found}
 

@@ -12,14 +12,12 @@ use Rattle.cell_netlist.specs.Sound.{IsSound}
 use Rattle.junction_report.specs.declared.depths.Measured.TheVariants.{Cells}
 use Rattle.junction_report.specs.Walks.{IsPassing, EndsIn, IsDepth}
 use Rattle.junction_report.specs.Paths.{IsDeeperPort, ComesBy, StandsBefore, IsTraced, IsLowestDeepest, IsPath}
-use Rattle.junction_report.specs.Needs.{feeding, listed}
+use Rattle.cell_orders.specs.Needs.{feeding, listed}
 use Rattle.junction_report.specs.Depths.{depth_behind, entry_depth, most, AreDepths}
 use Rattle.junction_report.specs.Reports.{numbers_of}
 use Rattle.junction_report.specs.Traces.{IsLast, before, IsBackTo}
-use Rattle.junction_report.proofs.Feeding.{feeding_drives}
-use Rattle.junction_report.proofs.Walking.{same_cell}
+use Rattle.cell_orders.proofs.CallerLemmas.{same_cell, feeding_drives, cell_at}
 use Rattle.junction_report.proofs.Greatest.{IsGreatestInto, entry_is}
-use Rattle.junction_report.proofs.Reaching.{cell_at}
 use Rattle.junction_report.proofs.Levels.{into_by}
 use Rattle.junction_report.proofs.DepthsOfCells.{depth_of_measure, depth_of_into, depth_unique, deep_passes, depth_next}
 

@@ -10,10 +10,6 @@ use Rattle.junction_report.specs.declared.depths.Measured.TheVariants.{Cells}
 use Rattle.junction_report.specs.Walks.{IsPassing, Feeds, IsWalk, EndsIn, IsWalkTo, IsGreatest}
 use Rattle.junction_report.specs.Depths.{share_of, measure_of}
 
--- two cells at one place are the same
-pub same_cell : (net : PlainNetlist) (c : ℕ) {x y : Cell} → slice_get net.cells c ≡ Some x → slice_get net.cells c ≡ Some y → x ≡ y
-same_cell net c e f = cc
-
 module _ (net : PlainNetlist) where
   -- one cell is a walk
   pub alone : (c : ℕ) → IsPassing net c → IsWalkTo net c (c ∷ [])

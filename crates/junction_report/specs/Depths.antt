@@ -7,7 +7,7 @@ use Rattle.cell_netlist.specs.Netlists.{PlainNetlist, IsDroc}
 use Rattle.junction_report.specs.declared.depths.Measured.{Measured}
 use Rattle.junction_report.specs.declared.depths.Measured.TheVariants.{Cells, Gates}
 use Rattle.junction_report.specs.Walks.{IsPassing, IsWalkTo, IsGreatest, one_if_gate}
-use Rattle.junction_report.specs.Needs.{feeding}
+use Rattle.cell_orders.specs.Needs.{feeding}
 
 -- what a cell adds to the measure of a walk
 abbrev pub share_of : Measured → Cell → ℕ

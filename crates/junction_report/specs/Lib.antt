@@ -3,7 +3,6 @@ pub mod Walks
 pub mod Paths
 pub mod Counts
 pub mod Reports
-pub mod Needs
 pub mod Depths
 pub mod Traces
 pub mod Texts

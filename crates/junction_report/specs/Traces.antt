@@ -4,7 +4,7 @@ use Rattle.pulse_ids.specs.Ids.{CellId}
 use Rattle.cell_netlist.specs.declared.lines.Cell.{Cell}
 use Rattle.cell_netlist.specs.declared.lines.Cell.TheVariants.{La, Fa, Split, Droc}
 use Rattle.cell_netlist.specs.Netlists.{PlainNetlist}
-use Rattle.junction_report.specs.Needs.{feeding}
+use Rattle.cell_orders.specs.Needs.{feeding}
 use Rattle.junction_report.specs.Depths.{depth_behind, most}
 
 -- the cell is the lowest of those with the greatest depth; there is none where the greatest depth is 0

@@ -5,11 +5,11 @@ ghost use Rattle.std.specs.List.{position};
 ghost use Rattle.pulse_ids.specs.Lists.{IsIn};
 ghost use Rattle.cell_netlist.specs.Netlists.{number_of_wires, most_lines, reads};
 ghost use Rattle.dependency_order.specs.Orders.{IsOrderOf};
-ghost use Rattle.junction_report.specs.Needs.{dependencies_of};
+ghost use Rattle.cell_orders.specs.Needs.{dependencies_of};
 ghost use Rattle.junction_report.specs.Depths.{AreDepths, AreAtMost, share_of, depth_behind as behind, entry_depth as entry, most};
 
-use crate::order::driving_cell;
 use cell_netlist::{Cell, SoundNet};
+use cell_orders::driving_cell;
 use dependency_order::Order;
 use pulse_ids::{CellId, Ident, NoMemory, Row, WireId};
 use std::alloc::Global;

@@ -4,7 +4,6 @@
 mod counts;
 mod depths;
 mod laws;
-mod order;
 mod paths;
 mod reporting;
 mod reports;

@@ -5,16 +5,16 @@ ghost use Rattle.pulse_ids.specs.Lists.{IsIn};
 ghost use Rattle.cell_netlist.specs.Netlists.{number_of_wires, most_lines, reads};
 ghost use Rattle.junction_report.specs.declared.depths.Measured.TheVariants as measured_by;
 ghost use Rattle.junction_report.specs.Depths.{AreDepths, AreAtMost, depth_behind as behind};
-ghost use Rattle.junction_report.specs.Needs.{listed};
+ghost use Rattle.cell_orders.specs.Needs.{listed};
 ghost use Rattle.junction_report.specs.Walks.{IsPassing};
 ghost use Rattle.junction_report.specs.Paths.{IsPath};
 ghost use Rattle.junction_report.specs.Reports.{numbers_of};
 ghost use Rattle.junction_report.specs.Traces.{IsLast, IsBackTo, before};
 
 use crate::depths::{depth_behind, greatest, lowest_of};
-use crate::order::driving_cell;
 use crate::reports::Path;
 use cell_netlist::{Cell, SoundNet};
+use cell_orders::driving_cell;
 use pulse_ids::{CellId, NoMemory, Row, WireId};
 use std::alloc::Global;
 

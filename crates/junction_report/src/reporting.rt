@@ -5,10 +5,10 @@ ghost use Rattle.junction_report.specs.Reports.{IsReport};
 
 use crate::counts::{count_cells, junctions};
 use crate::depths::{Measured, depth_table, greatest};
-use crate::order::cell_order;
 use crate::paths::deepest_path;
 use crate::reports::Report;
 use cell_netlist::SoundNet;
+use cell_orders::cell_order;
 use pulse_ids::NoMemory;
 use std::alloc::Global;
 

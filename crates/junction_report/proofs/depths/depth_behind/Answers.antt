@@ -1,7 +1,7 @@
 use Rattle.std.proofs.Common.{map, get_or, ap, arith}
 use Rattle.std.proofs.lemmas.Option.{get_or_from_slice_get}
 use Rattle.junction_report.specs.Depths.{most}
-use Rattle.junction_report.proofs.Feeding.{fed_below}
+use Rattle.cell_orders.proofs.CallerLemmas.{fed_below}
 use Rattle.junction_report.proofs.depths.depth_behind.Goals as goal
 
 pub get-requires : goal.get-requires

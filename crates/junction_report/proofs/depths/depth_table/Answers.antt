@@ -5,7 +5,8 @@ use Rattle.cell_netlist.specs.declared.lines.Cell.{Cell}
 use Rattle.cell_netlist.specs.Netlists.{PlainNetlist, most_lines}
 use Rattle.cell_netlist.proofs.CallerLemmas.{named_below}
 use Rattle.junction_report.specs.Depths.{share_of, depth_behind, entry_depth}
-use Rattle.junction_report.proofs.Levels.{LevelsTo, item_at_below, items_few, levels_more, levels_done}
+use Rattle.cell_orders.proofs.CallerLemmas.{item_at_below, items_few}
+use Rattle.junction_report.proofs.Levels.{LevelsTo, levels_more, levels_done}
 use Rattle.junction_report.proofs.depths.depth_table.Goals as goal
 
 pub get-requires : goal.get-requires
@@ -14,7 +15,7 @@ get-requires c =
     let low : c.loop-item.item-index < length c.args.order.now.items = subst (λ (l : List ℕ). c.loop-item.item-index < length l) items c.loop-item-test.true in
     let number : c.new-id.result.number ≡ slice_index c.args.order.now.items c.loop-item.item-index = c.new-id.ensures ∙ ap (λ (l : List ℕ). slice_index l c.loop-item.item-index) items in
     let cells : c.cells-in-loop-item.result.now ≡ c.args.net.now.cells = c.cells-in-loop-item.ensures ∙ ap (λ (n : PlainNetlist). n.cells) c.net-in-loop-item.ensures.net in
-    omega (arith, number, ap (λ (l : List Cell). length l) cells, item_at_below c.args.net.now c.args.measured c.args.order.now c.requires c.loop-item.item-index low)
+    omega (arith, number, ap (λ (l : List Cell). length l) cells, item_at_below c.args.net.now c.args.order.now.items c.requires.order c.loop-item.item-index low)
 
 pub depth_of-depth-requires-clause-small : goal.depth_of-depth-requires-clause-small
 depth_of-depth-requires-clause-small c place =
@@ -24,7 +25,7 @@ depth_of-depth-requires-clause-small c place =
     let cells : c.cells-in-loop-item.result.now ≡ c.args.net.now.cells = c.cells-in-loop-item.ensures ∙ ap (λ (n : PlainNetlist). n.cells) c.net-in-loop-item.ensures.net in
     let few : length c.args.net.now.cells ≤ most_lines =
     subst (λ (n : PlainNetlist). length n.cells ≤ most_lines) c.net.ensures.net c.wires-few.ensures.lines.cells in
-    omega (arith, low, few, items_few c.args.net.now c.args.measured c.args.order.now c.requires, c.loop-item.invariant.small place)
+    omega (arith, low, few, items_few c.args.net.now c.args.order.now.items c.requires.order, c.loop-item.invariant.small place)
 
 pub depth_of-depth-requires-clause-reads : goal.depth_of-depth-requires-clause-reads
 depth_of-depth-requires-clause-reads c wire i =
@@ -44,7 +45,7 @@ set-requires c =
     let low : c.loop-item.item-index < length c.args.order.now.items = subst (λ (l : List ℕ). c.loop-item.item-index < length l) items c.loop-item-test.true in
     let number : c.new-id.result.number ≡ slice_index c.args.order.now.items c.loop-item.item-index = c.new-id.ensures ∙ ap (λ (l : List ℕ). slice_index l c.loop-item.item-index) items in
     let cells : c.cells-in-loop-item.result.now ≡ c.args.net.now.cells = c.cells-in-loop-item.ensures ∙ ap (λ (n : PlainNetlist). n.cells) c.net-in-loop-item.ensures.net in
-    omega (arith, number, c.loop-item.invariant.width, item_at_below c.args.net.now c.args.measured c.args.order.now c.requires c.loop-item.item-index low)
+    omega (arith, number, c.loop-item.invariant.width, item_at_below c.args.net.now c.args.order.now.items c.requires.order c.loop-item.item-index low)
 
 pub loop-item-preserved : goal.loop-item-preserved
 loop-item-preserved c =

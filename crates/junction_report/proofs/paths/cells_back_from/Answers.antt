@@ -6,10 +6,10 @@ use Rattle.cell_netlist.specs.declared.lines.Cell.{Cell}
 use Rattle.cell_netlist.specs.Netlists.{PlainNetlist, most_lines}
 use Rattle.cell_netlist.proofs.CallerLemmas.{named_below}
 use Rattle.junction_report.specs.Walks.{IsPassing}
-use Rattle.junction_report.specs.Needs.{listed}
+use Rattle.cell_orders.specs.Needs.{listed}
 use Rattle.junction_report.specs.Reports.{numbers_of}
 use Rattle.junction_report.specs.Traces.{IsBackTo}
-use Rattle.junction_report.proofs.Feeding.{passing_below}
+use Rattle.cell_orders.proofs.CallerLemmas.{passing_below}
 use Rattle.junction_report.proofs.Tracing.{depth_left, left_falls, after_passing, trace_more}
 use Rattle.junction_report.proofs.paths.cells_back_from.Goals as goal
 

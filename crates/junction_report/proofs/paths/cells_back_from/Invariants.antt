@@ -1,5 +1,5 @@
 use Rattle.std.specs.Prelude.{IfSome}
-use Rattle.junction_report.specs.Needs.{listed}
+use Rattle.cell_orders.specs.Needs.{listed}
 use Rattle.junction_report.specs.Reports.{numbers_of}
 use Rattle.junction_report.specs.Traces.{IsBackTo}
 use Rattle.junction_report.specs.Walks.{IsPassing}

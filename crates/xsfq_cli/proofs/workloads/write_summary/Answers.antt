@@ -15,11 +15,11 @@ returns-in_err-write_sizes g c =
     wrote_second _ _ _ _ _ _ _ _ (head_text c.args.work.now) (sizes_text c.args.work.now.report ++ tail_text c.args.work.now)
     (ok_so c.in_ok-write_head.was) c.write_head.ensures
     (wrote_first _ _ _ _ _ _ (sizes_text c.args.work.now.report) (tail_text c.args.work.now)
-    (err_so c.in_err-write_sizes.was) c.from_residual-in_err-write_sizes.ensures.0 c.write_sizes.ensures)
+    (err_so c.in_err-write_sizes.was) c.from_residual-in_err-write_sizes.ensures.0 c.write_sizes.ensures.written)
 
 pub returns : goal.returns
 returns g c =
     wrote_second _ _ _ _ _ _ _ _ (head_text c.args.work.now) (sizes_text c.args.work.now.report ++ tail_text c.args.work.now)
     (ok_so c.in_ok-write_head.was) c.write_head.ensures
     (wrote_second _ _ _ _ _ _ _ _ (sizes_text c.args.work.now.report) (tail_text c.args.work.now)
-    (ok_so c.in_ok-write_sizes.was) c.write_sizes.ensures c.write_tail.ensures)
+    (ok_so c.in_ok-write_sizes.was) c.write_sizes.ensures.written c.write_tail.ensures)

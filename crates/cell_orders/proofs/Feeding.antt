@@ -12,8 +12,12 @@ use Rattle.cell_netlist.specs.Netlists.{PlainNetlist, outs, IsDroc}
 use Rattle.cell_netlist.specs.Places.{drivers, IsDriverOf, output_at, output_of, wire_driven_at}
 use Rattle.cell_netlist.proofs.CallerLemmas.{driver-is, out-driver, driving_cell-is}
 use Rattle.cell_netlist.specs.Wired.{IsWired}
-use Rattle.junction_report.specs.Walks.{IsPassing, Drives}
-use Rattle.junction_report.specs.Needs.{passing_at, feeding}
+use Rattle.cell_orders.specs.PassingCells.{IsPassing, Drives}
+use Rattle.cell_orders.specs.Needs.{passing_at, feeding}
+
+-- two cells at one place are the same
+pub same_cell : (net : PlainNetlist) (c : ℕ) {x y : Cell} → slice_get net.cells c ≡ Some x → slice_get net.cells c ≡ Some y → x ≡ y
+same_cell net c e f = cc
 
 -- a cell with an output that LA, FA and splitter cells alone have
 abbrev HasOut : Cell → ℕ → Type 0

@@ -3,9 +3,9 @@ use Rattle.pulse_ids.proofs.CallerLemmas.{IsIn-place}
 use Rattle.cell_netlist.specs.declared.lines.Cell.{Cell}
 use Rattle.cell_netlist.specs.Netlists.{PlainNetlist, most_lines}
 use Rattle.cell_netlist.proofs.CallerLemmas.{named_below}
-use Rattle.junction_report.specs.Needs.{needs_of_cell}
-use Rattle.junction_report.proofs.Reaching.{added_needs_fit, added_stays_small, added_is_first, all_added}
-use Rattle.junction_report.proofs.order.add_cells.Goals as goal
+use Rattle.cell_orders.specs.Needs.{needs_of_cell}
+use Rattle.cell_orders.proofs.Reaching.{added_needs_fit, added_stays_small, added_is_first, all_added}
+use Rattle.cell_orders.proofs.order.add_cells.Goals as goal
 
 pub push_needs-requires : goal.push_needs-requires
 push_needs-requires c wire i =

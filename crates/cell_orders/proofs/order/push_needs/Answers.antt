@@ -2,7 +2,7 @@ use Rattle.std.proofs.Common.{inl, inr, refl, sym, subst}
 use Rattle.pulse_ids.specs.Lists.{IsIn}
 use Rattle.cell_netlist.specs.declared.lines.Cell.{Cell}
 use Rattle.cell_netlist.specs.Netlists.{reads}
-use Rattle.junction_report.proofs.order.push_needs.Goals as goal
+use Rattle.cell_orders.proofs.order.push_needs.Goals as goal
 
 pub push_drivers-requires-clause-a : goal.push_drivers-requires-clause-a
 push_drivers-requires-clause-a c = c.requires c.in-La.a.number (subst (λ (x : Cell). IsIn c.in-La.a.number (reads x)) (sym c.in-La.is) (inl refl))

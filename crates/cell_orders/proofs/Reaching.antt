@@ -22,10 +22,9 @@ use Rattle.cell_netlist.proofs.CallerLemmasOnDrivers.{read-grounded}
 use Rattle.dependency_order.specs.Dependencies.{PlainDependencies, AreBelow, AreInRange, StaysSmall, first_items, with_item, needs_of, yields_of}
 use Rattle.dependency_order.specs.Orders.{Reached, by_item, IsOrder}
 use Rattle.dependency_order.proofs.CallerLemmas.{next_needs_fit, next_yields_fit, next_stays_small, next_is_first, all_items, all_come}
-use Rattle.junction_report.specs.Walks.{Drives}
-use Rattle.junction_report.specs.Needs.{passing_at, feeding, needs_of_cell, dependencies_of}
-use Rattle.junction_report.proofs.Feeding.{passing_below, at_below, feeding_drives}
-use Rattle.junction_report.proofs.Walking.{same_cell}
+use Rattle.cell_orders.specs.PassingCells.{Drives}
+use Rattle.cell_orders.specs.Needs.{passing_at, feeding, needs_of_cell, dependencies_of}
+use Rattle.cell_orders.proofs.Feeding.{same_cell, passing_below, at_below, feeding_drives}
 
 -- there is a cell at each place
 pub cell_at : (cells : List Cell) (i : ℕ) → i < length cells → (cell : Cell) × (slice_get cells i ≡ Some cell)

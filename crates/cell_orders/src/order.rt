@@ -1,27 +1,34 @@
-//! The cells in an order in which each comes after the LA, FA and splitter cells that it reads.
+//! The order of cells, and what drives a wire.
 
 ghost use Rattle.std.specs.Prelude.{◌≡◌, ◌<◌, ◌++◌, ℕ, IfOk, OnOk};
 ghost use Rattle.pulse_ids.specs.Lists.{IsIn};
 ghost use Rattle.cell_netlist.specs.Netlists.{number_of_wires, reads};
 ghost use Rattle.dependency_order.specs.Dependencies.{first_items};
 ghost use Rattle.dependency_order.specs.Orders.{IsOrderOf};
-ghost use Rattle.junction_report.specs.Needs.{feeding, listed, needs_of_cell, dependencies_of};
+ghost use Rattle.cell_orders.specs.CellOrders.{IsCellOrder};
+ghost use Rattle.cell_orders.specs.Needs.{feeding, listed, needs_of_cell, dependencies_of};
 
 use cell_netlist::{Cell, Driver, SoundNet, readers_of_wires};
 use dependency_order::{Dependencies, Order, Totals, arrival_order};
 use pulse_ids::{CellId, Ident, NoMemory, WireId};
 use std::alloc::Global;
 
-/// The cells in an order in which each LA, FA and splitter comes after those whose outputs it reads.
-pub(crate) fn cell_order(alloc: Global, net: &SoundNet) -> Result<Order, NoMemory>
-    ensures { IfOk result (λ order. IsOrderOf (dependencies_of net.now) order) }
+/// All cells, by their numbers, in an order in which each LA, FA and splitter comes after those whose outputs it reads.
+///
+/// It takes time and memory linear in the lines of the netlist, whatever their order, and fails only for want of
+/// memory.
+pub fn cell_order(alloc: Global, net: &SoundNet) -> Result<Order, NoMemory>
+    ensures needs { IfOk result (λ order. IsOrderOf (dependencies_of net.now) order) }
+    ensures cells { IfOk result (λ order. IsCellOrder net.now order.items) }
 {
+    let _sound = net.net();
     let dependencies = dependencies(alloc, net)?;
     Ok(arrival_order(alloc, &dependencies)?)
 }
 
-/// The LA, FA or splitter that drives a wire. None where an input rail or a DROC does.
-pub(crate) fn driving_cell(net: &SoundNet, wire: WireId) -> Option<CellId>
+/// The LA, FA or splitter that drives a wire, which is below the number of wires. None where an input rail or a DROC
+/// does. It takes constant time.
+pub fn driving_cell(net: &SoundNet, wire: WireId) -> Option<CellId>
     requires { wire.number < number_of_wires net.now }
     ensures { feeding net.now wire.number ≡ listed result }
 {

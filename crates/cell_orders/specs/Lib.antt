@@ -1,0 +1,4 @@
+-- The words of orders of cells.
+pub mod PassingCells
+pub mod Needs
+pub mod CellOrders

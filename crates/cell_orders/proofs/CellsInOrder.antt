@@ -1,5 +1,5 @@
 -- An order of the needs of a sound netlist is an order of its cells.
-use Rattle.std.proofs.Common.{◌≡◌, ◌<◌, ◌≤◌, ◌||◌, ℕ, inl, inr, Bool, true, false, Some, List, [], ◌∷◌, length, take, slice_get, eqb, refl, sym, ap, subst, arith}
+use Rattle.std.proofs.Common.{◌≡◌, ◌<◌, ◌≤◌, ◌||◌, ℕ, inl, inr, Bool, true, false, Some, List, [], ◌∷◌, length, take, slice_get, eqb, refl, sym, subst, arith}
 use Rattle.std.specs.Prelude.{slice_index}
 use Rattle.std.specs.List.{list_any}
 use Rattle.std.proofs.lemmas.Bool.{eqb-true}
@@ -11,7 +11,6 @@ use Rattle.cell_netlist.specs.Netlists.{PlainNetlist}
 use Rattle.cell_netlist.specs.Sound.{IsSound}
 use Rattle.dependency_order.specs.Dependencies.{needs_of, yields_of}
 use Rattle.dependency_order.specs.Orders.{IsKnown, IsOrder}
-use Rattle.cell_orders.specs.PassingCells.{Feeds}
 use Rattle.cell_orders.specs.CellOrders.{IsCellOrder}
 use Rattle.cell_orders.specs.Needs.{needs_of_cell, dependencies_of}
 use Rattle.cell_orders.proofs.Feeding.{drives_feeding}

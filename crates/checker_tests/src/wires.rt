@@ -119,12 +119,13 @@ fn wires_of_an_unsound_netlist_have_places(rt: HostRuntime) -> Result<(), Fail> 
     let droc = CellId::new(1);
     assert_eq!(rt;
         places.as_slice(),
-        &[
+        [
             (Driver::Input(RailId::new(0)), Reader::A(gate)),
             (Driver::Q(droc), Reader::B(gate)),
             (Driver::Out(gate), Reader::Output(RailId::new(0))),
             (Driver::Input(RailId::new(1)), Reader::Feed(droc)),
         ]
+        .as_slice()
     );
     Ok(())
 }

@@ -28,3 +28,6 @@ pub mod OpenLines
 pub mod LineChecks
 pub mod TextChecks
 pub mod FirstRefusals
+pub mod ClockNames
+pub mod ClockUses
+pub mod TextVerdicts

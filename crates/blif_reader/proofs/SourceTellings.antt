@@ -150,7 +150,7 @@ module _ (unset : Unset) where
   whole_by true state source h = clocked_by (clock_cause (closed state) state.clock) (source_of (closed state)) source h
   whole_by false state source h = absurd cc
 
-  read_by : (lines : List LogicalLine) (source : PlainSource) (read : Result BlifState BlifRefusal) → lines_read unset (Ok nothing_read) lines ≡ read
+  pub read_by : (lines : List LogicalLine) (source : PlainSource) (read : Result BlifState BlifRefusal) → lines_read unset (Ok nothing_read) lines ≡ read
       → source_read read ≡ Ok source → source ≡ source_told unset (words_of lines)
   read_by lines source (Ok state) e h = sym (whole_by state.modelled state source h) ∙ (lines_told lines state e).source
   read_by lines source (Err refusal) e h = absurd cc

@@ -6,9 +6,9 @@ use Rattle.source_machine.specs.declared.unset.Unset.{Unset}
 use Rattle.blif_reader.specs.declared.refusals.BlifRefusal.{BlifRefusal}
 use Rattle.blif_reader.specs.declared.refusals.BlifRefusal.TheVariants as refusals
 use Rattle.blif_reader.specs.States.{BlifState, nothing_read, closed}
-use Rattle.blif_reader.specs.Sources.{PlainSource, source_of, all_logical_lines, refusal_at, line_read, lines_read, refusal_of, early, judgement}
+use Rattle.blif_reader.specs.Sources.{PlainSource, source_of, all_logical_lines, refusal_at, line_read, lines_read, refusal_of, early, source_read, judgement}
 use Rattle.blif_reader.specs.LineRefusals.{is_end, size_told, line_refused}
-use Rattle.blif_reader.specs.ToldVerdicts.{first_refusal, early_told}
+use Rattle.blif_reader.specs.ToldVerdicts.{first_refusal, early_told, whole_refused, judgement_told}
 use Rattle.blif_reader.specs.Tellings.{clock_words, nets_told, clock_told, has_words, AllRowsAgree, source_told, words_of}
 
 -- what the first bytes of a text show stays shown, and is its verdict
@@ -61,3 +61,9 @@ pub record RefusalsAreTold : Type 0 where
       → refusal_of (lines_read unset (Ok nothing_read) (lines ++ line ∷ [])) ≡ option_map (refusal_at line.first) (line_refused unset (words_of lines) (dark_words line.text))
   pub first : (unset : Unset) (lines : List LogicalLine) → refusal_of (lines_read unset (Ok nothing_read) lines) ≡ first_refusal unset [] lines
   pub early : (unset : Unset) (text : List ℕ) → early unset text ≡ early_told unset text
+
+-- the whole of accepted lines is refused as their words tell, and so all that a text is judged to be
+pub record VerdictsAreTold : Type 0 where
+  pub whole : (unset : Unset) (lines : List LogicalLine) → AreAccepted unset lines
+      → refusal_of (source_read (lines_read unset (Ok nothing_read) lines)) ≡ whole_refused (words_of lines)
+  pub judged : (unset : Unset) (text : List ℕ) → judgement unset text ≡ judgement_told unset text

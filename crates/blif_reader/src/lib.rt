@@ -22,6 +22,6 @@ mod statements;
 mod states;
 mod uses;
 
-pub use laws::{early_refusals_stand, refusals_are_told, sources_are_told};
+pub use laws::{early_refusals_stand, refusals_are_told, sources_are_told, verdicts_are_told};
 pub use readers::BlifReader;
 pub use refusals::{BlifCause, BlifFault, BlifRefusal};

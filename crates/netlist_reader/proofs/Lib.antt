@@ -6,7 +6,10 @@ pub mod Memory
 pub mod PortNames
 pub mod Steps
 pub mod Lines
+pub mod KnownPorts
 pub mod Texts
+pub mod Stopping
+pub mod Growing
 pub mod Ends
 pub mod WrittenWords
 pub mod WrittenLines

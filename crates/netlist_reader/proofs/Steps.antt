@@ -28,7 +28,7 @@ abbrev pub refused : NetRefusal → Result Built NetRefusal
 refused refusal = Err refusal
 
 -- the section of the last line, by all lines
-abbrev IsPlaced : List (List ℕ) → Option Section → Type 0
+abbrev pub IsPlaced : List (List ℕ) → Option Section → Type 0
 IsPlaced [] last = last ≡ None
 IsPlaced (version ∷ []) last = (last ≡ Some Version) × (statement_in version ≡ Some statements.Version)
 IsPlaced (version ∷ ports ∷ lines) last = (section : Section) × (last ≡ Some section) × (1 ≤ rank section)
@@ -162,7 +162,7 @@ module _ (line : List ℕ) (statement : Statement) (says : statement_in line ≡
       let two = leb-true _ _ (and_parts (leb 2 (rank (section_of statement))) (list_all (λ line. leb (rank_by (statement_in line)) (rank (section_of statement))) lines) stands).0 in
       sym (lists_next line statement says (version ∷ ports ∷ lines) ∙ behind_head line statement (netlist_in (version ∷ ports ∷ lines)) two)
 
-  inputs_next : (lines : List (List ℕ)) (last : Option Section) → IsPlaced lines last → follows_lines lines (section_of statement) ≡ true
+  pub inputs_next : (lines : List (List ℕ)) (last : Option Section) → IsPlaced lines last → follows_lines lines (section_of statement) ≡ true
       → inputs_after (inputs_of lines) statement ≡ inputs_of (lines ++ line ∷ [])
   inputs_next [] last placed stands = ap (inputs_after None) (first_is statement stands)
   inputs_next (version ∷ []) last placed stands =
@@ -212,7 +212,7 @@ module _ (line : List ℕ) (statement : Statement) (says : statement_in line ≡
     ended = ended_next lines (sym is.ended ∙ unended);
   }
 
-  allowed_is : (lines : List (List ℕ)) (built : Built) → IsBuilt lines built → allows built statement ≡ stands_after lines statement
+  pub allowed_is : (lines : List (List ℕ)) (built : Built) → IsBuilt lines built → allows built statement ≡ stands_after lines statement
   allowed_is lines built is =
       ap (λ b. b && fits_port built.net statement) (place_is lines built.last (section_of statement) is.placed)
       ∙ ap (λ (n : PlainNetlist). follows_lines lines (section_of statement) && fits_port n statement) is.net
@@ -238,7 +238,7 @@ module _ (lines : List (List ℕ)) (built : Built) (is : IsBuilt lines built) (u
   right_said None next says read = absurd cc
   right_said (Some statement) next says read = right_by statement (allows built statement) (limit_of line statement) next says refl refl read
 
-  read_is : line_read built line ≡ read_by built line (statement_in line)
+  pub read_is : line_read built line ≡ read_by built line (statement_in line)
   read_is = rw unended refl
 
   pub line_right : (next : Built) → line_read built line ≡ going next → (line_refusal lines line ≡ None) × IsBuilt (lines ++ line ∷ []) next

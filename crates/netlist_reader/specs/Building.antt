@@ -1,7 +1,8 @@
 -- What a reader keeps of the lines so far, and how each line changes it.
-use Rattle.std.specs.Prelude.{◌≤◌, ◌<◌, ℕ, ◌+◌, ◌++◌, ◌==◌, Bool, true, false, ◌&&◌, List, [], ◌∷◌, Option, Some, None, Result, Ok, Err, length, nat_le, if◌then◌else◌, ⊤}
+use Rattle.std.specs.Prelude.{◌≡◌, ◌≤◌, ◌<◌, ℕ, ◌+◌, ◌++◌, ◌==◌, Bool, true, false, ◌&&◌, List, [], ◌∷◌, Option, Some, None, Result, Ok, Err, length, nat_le, if◌then◌else◌, ⊤}
 use Rattle.pulse_ids.specs.declared.quantities.Quantity.{Quantity}
 use Rattle.cell_netlist.specs.Netlists.{PlainNetlist, empty_netlist, most_lines}
+use Rattle.word_scan.specs.Reading.{read_on}
 use Rattle.netlist_reader.specs.declared.statements.Statement.{Statement}
 use Rattle.netlist_reader.specs.declared.statements.Statement.TheVariants as statements
 use Rattle.netlist_reader.specs.declared.places.Section.{Section}
@@ -24,6 +25,11 @@ follows (Some last) section = nat_le 2 (rank section) && nat_le (rank last) (ran
 abbrev pub inputs_after : Option ℕ → Statement → Option ℕ
 inputs_after inputs (statements.Ports these others) = Some these
 inputs_after inputs statement = inputs
+
+-- and after a line that is refused: of one that passes a limit, what it says is known
+abbrev pub inputs_refused : NetRefusal → Option ℕ → Option Statement → Option ℕ
+inputs_refused (refusals.Limit quantity) inputs (Some statement) = inputs_after inputs statement
+inputs_refused refusal inputs said = inputs
 
 -- a netlist with what a line says
 abbrev pub with_statement : List ℕ → Statement → PlainNetlist → PlainNetlist
@@ -91,3 +97,24 @@ pub record IsBounded (built : Built) : Type 0 where
 abbrev pub OrMemory : NetRefusal → Type 0 → Type 0
 OrMemory refusals.NoMemory fact = ⊤
 OrMemory _ fact = fact
+
+-- the next of these lines is refused
+abbrev pub RefusesNext : Built → List (List ℕ) → NetRefusal → Type 0
+RefusesNext built [] refusal = ⊥
+RefusesNext built (line ∷ lines) refusal = line_read built line ≡ Err refusal
+
+abbrev pub inputs_behind : NetRefusal → Option ℕ → List (List ℕ) → Option ℕ
+inputs_behind refusal inputs [] = inputs
+inputs_behind refusal inputs (line ∷ lines) = inputs_refused refusal inputs (statement_in line)
+
+-- where a refusal stops the reading of lines, and what is left then
+pub record StopsReading (lines : List (List ℕ)) (refusal : NetRefusal) (left : Built) : Type 0 where
+  pub before : List (List ℕ)
+  pub after : List (List ℕ)
+  pub state : Built
+  pub lines_are : lines ≡ before ++ after
+  pub reads : read_on line_read (Ok start) before ≡ Ok state
+  pub unended : has_ended state ≡ false
+  pub counted : left.lines ≡ state.lines
+  pub refused : OrMemory refusal (RefusesNext state after refusal)
+  pub known : left.inputs ≡ inputs_behind refusal state.inputs after

@@ -94,10 +94,10 @@ fn add(alloc: Global, net: &mut Netlist, line: &[u8], statement: Statement) -> R
 }
 
 impl Built {
-    ghost use Rattle.std.specs.Prelude.{◌≡◌, ◌<◌, ◌+◌, ◌^◌, false, Some, Ok, Err, IfErr, OnOk};
+    ghost use Rattle.std.specs.Prelude.{◌≡◌, ◌<◌, ◌+◌, ◌^◌, false, Some, Ok, Err, IfErr, OnErr, OnOk};
     ghost use Rattle.word_scan.specs.Lines.{HasNoFeed};
     ghost use Rattle.netlist_reader.specs.Statements.{statement_in};
-    ghost use Rattle.netlist_reader.specs.Building.{allows, has_ended, line_read, IsBounded, start, OrMemory};
+    ghost use Rattle.netlist_reader.specs.Building.{allows, has_ended, inputs_refused, line_read, IsBounded, start, OrMemory};
 
     /// Before the first line.
     pub(crate) fn new(alloc: Global) -> Built
@@ -138,17 +138,20 @@ impl Built {
         ensures count { OnOk result (self.new.lines ≡ self.old.lines + 1) }
         ensures ok { OnOk result (line_read self.old line.now ≡ Ok self.new) }
         ensures err { IfErr result (λ refusal. OrMemory refusal (line_read self.old line.now ≡ Err refusal)) }
+        ensures counted { OnErr result (self.new.lines ≡ self.old.lines) }
+        ensures known { IfErr result (λ refusal. self.new.inputs ≡ inputs_refused refusal self.old.inputs (statement_in line.now)) }
     {
         let bad = NetRefusal::BadLine(self.lines + 1);
         let statement = statement_in(line).ok_or(bad)?;
         if !self.allows(statement) {
             return Err(bad);
         }
-        self.inputs = inputs_after(self.inputs, statement);
         if let Some(quantity) = limit_of(line, statement) {
+            self.inputs = inputs_after(self.inputs, statement);
             return Err(NetRefusal::Limit(quantity));
         }
         add(alloc, &mut self.net, line, statement)?;
+        self.inputs = inputs_after(self.inputs, statement);
         self.last = Some(section_of(statement));
         self.lines += 1;
         Ok(())

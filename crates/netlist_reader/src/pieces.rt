@@ -2,7 +2,8 @@
 
 ghost use Rattle.std.specs.Prelude.{◌≡◌, ◌≤◌, ◌<◌, ◌^◌, ◌+◌, ◌++◌, ℕ, List, Err, IfOk, IfErr, OnOk, false, take, length};
 ghost use Rattle.word_scan.specs.Reading.{HasRead, text_read};
-ghost use Rattle.netlist_reader.specs.Building.{has_ended, line_read, start, OrMemory};
+ghost use Rattle.word_scan.specs.Lines.{whole_lines};
+ghost use Rattle.netlist_reader.specs.Building.{has_ended, line_read, start, OrMemory, StopsReading};
 ghost use Rattle.netlist_reader.specs.Readings.{IsFine};
 
 use crate::built::Built;
@@ -28,6 +29,8 @@ fn take_line(
         → HasRead line_read start (text ++ take used piece.now) lines.new built.new) }
     ensures err { IfErr result (λ refusal. (text : List ℕ) → HasRead line_read start text lines.old built.old
         → OrMemory refusal (text_read line_read start (text ++ piece.now) ≡ Err refusal)) }
+    ensures stops { IfErr result (λ refusal. (text : List ℕ) → HasRead line_read start text lines.old built.old
+        → StopsReading (whole_lines (text ++ piece.now)) refusal built.new) }
 {
     if let Some(line) = lines.take_whole(piece) {
         built.read(alloc, line)?;
@@ -57,6 +60,8 @@ pub(crate) fn take_piece(
         → HasRead line_read start (text ++ take used piece.now) lines.new built.new) }
     ensures err { IfErr result (λ refusal. (text : List ℕ) → HasRead line_read start text lines.old built.old
         → OrMemory refusal (text_read line_read start (text ++ piece.now) ≡ Err refusal)) }
+    ensures stops { IfErr result (λ refusal. (text : List ℕ) → HasRead line_read start text lines.old built.old
+        → StopsReading (whole_lines (text ++ piece.now)) refusal built.new) }
 {
     let mut rest = piece;
     while !built.has_ended() && !rest.is_empty() {

@@ -32,10 +32,11 @@ impl NetReader {
     ghost use Rattle.std.specs.Prelude.{◌≡◌, ◌≤◌, ◌^◌, ◌++◌, [], ℕ, List, false, Some, None, Ok, Err, IfOk, IfErr, OnOk, OnErr, length, take};
     ghost use Rattle.word_scan.specs.Lines.{whole_lines};
     ghost use Rattle.netlist_reader.specs.declared.refusals.NetRefusal.{NetRefusal};
+    ghost use Rattle.netlist_reader.specs.declared.refusals.NetRefusal.TheVariants.{NoMemory};
     ghost use Rattle.netlist_reader.specs.Places.{inputs_of, has_end};
     ghost use Rattle.netlist_reader.specs.Building.{OrMemory};
     ghost use Rattle.netlist_reader.specs.Verdicts.{lines_in, after_end, early, net_verdict};
-    ghost use Rattle.netlist_reader.specs.Readings.{IsReading, Answers};
+    ghost use Rattle.netlist_reader.specs.Readings.{IsReading, Answers, StopsAt};
 
     /// Before the first byte. It takes no memory.
     pub fn new(alloc: Global) -> NetReader
@@ -66,11 +67,12 @@ impl NetReader {
     }
 
     /// The netlist of the bytes taken, or why there is none: what they show early, or `Truncated` where no whole
-    /// `end` line is among them. It takes no memory.
+    /// `end` line is among them. It takes no memory: `NoMemory` comes only where it was answered before.
     pub fn finish(self) -> Result<Netlist, NetRefusal>
         ensures net { IfOk result (λ net. (text : List ℕ) → IsReading text self → net_verdict text ≡ Ok (net, [])) }
         ensures err { IfErr result (λ refusal. (text : List ℕ) → IsReading text self → OrMemory refusal (net_verdict text ≡ Err refusal)) }
         ensures again { (refusal : NetRefusal) → self.stopped ≡ Some refusal → result ≡ Err refusal }
+        ensures no_memory { result ≡ Err NoMemory → self.stopped ≡ Some NoMemory }
     {
         finished(self.reading)
     }
@@ -81,15 +83,17 @@ impl NetReader {
         ensures value { result ≡ self.now.built.lines }
         ensures lines { (text : List ℕ) → IsReading text self.now → self.now.stopped ≡ None → result ≡ length (whole_lines text) }
         ensures few { self.now.stopped ≡ None → result ≤ 2 ^ 27 }
+        ensures stops { (text : List ℕ) (refusal : NetRefusal) → IsReading text self.now → self.now.stopped ≡ Some refusal → StopsAt text refusal result self.now.built.inputs }
     {
         self.reading.built.lines
     }
 
-    /// The number of input ports. None exactly before the `ports` line; a reader that refused that line for a limit
-    /// still tells the number.
+    /// The number of input ports. None exactly before the whole `ports` line: a reader that refused that line for a limit
+    /// still tells the number, and one that refused an earlier line tells none, whatever follows.
     pub fn inputs(&self) -> Option<u32>
         ensures value { result ≡ self.now.built.inputs }
         ensures inputs { (text : List ℕ) → IsReading text self.now → self.now.stopped ≡ None → result ≡ inputs_of (lines_in text) }
+        ensures stops { (text : List ℕ) (refusal : NetRefusal) → IsReading text self.now → self.now.stopped ≡ Some refusal → StopsAt text refusal self.now.built.lines result }
     {
         self.reading.built.inputs
     }

@@ -3,10 +3,11 @@
 ghost use Rattle.std.specs.Prelude.{◌≡◌, ◌≤◌, ◌+◌, ◌-◌, ◌++◌, ℕ, List, false, Some, None, Ok, Err, IfOk, IfErr, OnOk, OnErr, length, take, []};
 ghost use Rattle.word_scan.specs.Reading.{HasRead};
 ghost use Rattle.netlist_reader.specs.declared.refusals.NetRefusal.{NetRefusal};
+ghost use Rattle.netlist_reader.specs.declared.refusals.NetRefusal.TheVariants.{NoMemory};
 ghost use Rattle.netlist_reader.specs.Places.{has_end};
 ghost use Rattle.netlist_reader.specs.Building.{has_ended, line_read, start, OrMemory};
 ghost use Rattle.netlist_reader.specs.Verdicts.{limit, lines_in, after_end, early, net_verdict};
-ghost use Rattle.netlist_reader.specs.Readings.{IsFine, IsSafe, IsReading, Answers};
+ghost use Rattle.netlist_reader.specs.Readings.{IsFine, IsSafe, IsReading, Answers, StopsAt};
 
 use crate::built::Built;
 use crate::pieces::take_piece;
@@ -63,6 +64,8 @@ fn read_on(
         → HasRead line_read start (text ++ take used piece.now) lines.new built.new) }
     ensures err { IfErr result (λ refusal. (text : List ℕ) → length text ≡ limit - room → HasRead line_read start text lines.old built.old
         → OrMemory refusal (early (text ++ piece.now) ≡ Some refusal)) }
+    ensures stops { IfErr result (λ refusal. (text : List ℕ) → length text ≡ limit - room → HasRead line_read start text lines.old built.old
+        → StopsAt (text ++ piece.now) refusal built.new.lines built.new.inputs) }
 {
     let within = piece.len().min(room);
     let used = take_piece(alloc, lines, built, &piece[..within])?;
@@ -118,6 +121,7 @@ pub(crate) fn finished(reading: Reading) -> Result<Netlist, NetRefusal>
     ensures net { IfOk result (λ net. (text : List ℕ) → IsReading text reading → net_verdict text ≡ Ok (net, [])) }
     ensures err { IfErr result (λ refusal. (text : List ℕ) → IsReading text reading → OrMemory refusal (net_verdict text ≡ Err refusal)) }
     ensures again { (refusal : NetRefusal) → reading.stopped ≡ Some refusal → result ≡ Err refusal }
+    ensures no_memory { result ≡ Err NoMemory → reading.stopped ≡ Some NoMemory }
 {
     match reading.stopped {
         Some(refusal) => Err(refusal),

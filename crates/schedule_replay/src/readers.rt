@@ -33,6 +33,7 @@ impl Model for VectorReader {
 impl VectorReader {
     ghost use Rattle.std.specs.Prelude.{◌≡◌, ◌≤◌, ◌^◌, ◌++◌, [], ℕ, List, Err};
     ghost use Rattle.schedule_replay.specs.declared.refusals.VectorRefusal.{VectorRefusal};
+    ghost use Rattle.schedule_replay.specs.declared.refusals.VectorRefusal.TheVariants.{NoMemory};
     ghost use Rattle.schedule_replay.specs.declared.vector_lines.Form.{Form};
     ghost use Rattle.schedule_replay.specs.VectorTexts.{early, judgement};
     ghost use Rattle.schedule_replay.specs.Readings.{IsReading, Answers, HasAnswered, KeepsAnswer, IsVerdict};
@@ -69,10 +70,11 @@ impl VectorReader {
     }
 
     /// The vectors and scripts of the bytes, or why there are none: their first refusal, or `Truncated`, which comes
-    /// from here alone. It takes no memory.
+    /// from here alone. It takes no memory: `NoMemory` comes only where it was answered before.
     pub fn finish(self) -> Result<Vectors, VectorRefusal>
         ensures verdict { (form : Form) (text : List ℕ) → IsReading form text self → IsVerdict result (judgement form text) }
         ensures again { (refusal : VectorRefusal) → HasAnswered self refusal → result ≡ Err refusal }
+        ensures no_memory { result ≡ Err NoMemory → HasAnswered self NoMemory }
     {
         self.reading.finish()
     }

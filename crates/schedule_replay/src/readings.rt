@@ -2,6 +2,7 @@
 
 ghost use Rattle.std.specs.Prelude.{◌≡◌, ◌≤◌, ◌<◌, ◌+◌, ◌-◌, ◌^◌, ◌++◌, ℕ, List, min, length, [], Ok, Err};
 ghost use Rattle.schedule_replay.specs.declared.refusals.VectorRefusal.{VectorRefusal};
+ghost use Rattle.schedule_replay.specs.declared.refusals.VectorRefusal.TheVariants.{NoMemory};
 ghost use Rattle.schedule_replay.specs.declared.vector_lines.Form.{Form};
 ghost use Rattle.schedule_replay.specs.VectorTexts.{limit, early, judgement};
 ghost use Rattle.schedule_replay.specs.Readings.{HasReadLines, IsFine, IsSafe, IsReading, CanGoOn, HasStopped, Answers, HasAnswered, KeepsAnswer, IsVerdict};
@@ -107,6 +108,7 @@ impl Reading {
         requires { IsSafe self }
         ensures verdict { (form : Form) (text : List ℕ) → IsReading form text self → IsVerdict result (judgement form text) }
         ensures again { (refusal : VectorRefusal) → HasAnswered self refusal → result ≡ Err refusal }
+        ensures no_memory { result ≡ Err NoMemory → HasAnswered self NoMemory }
     {
         match self.refused {
             Some(refusal) => Err(refusal),

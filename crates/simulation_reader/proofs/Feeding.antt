@@ -23,7 +23,7 @@ use Rattle.simulation_reader.specs.declared.readers.SimulationInput.{SimulationI
 use Rattle.simulation_reader.specs.declared.refusals.InputRefusal.{InputRefusal}
 use Rattle.simulation_reader.specs.declared.refusals.InputRefusal.TheVariants.{Net, Vectors}
 use Rattle.simulation_reader.specs.InputTexts as inputs
-use Rattle.simulation_reader.specs.Reading.{HasBegun, IsAfter, IsBefore, HasRead, HasAnsweredBy, OrMemory, TakenBy}
+use Rattle.simulation_reader.specs.Reading.{HasBegun, IsAfter, IsBefore, HasRead, HasAnsweredBy, IsNoMemory, OrMemory, TakenBy}
 use Rattle.simulation_reader.proofs.Inputs.{begun-early, begun-judged, begun-verdict, net-early}
 
 -- before the first byte
@@ -184,3 +184,17 @@ again-after A net (Some same) reading answer e law (Net refusal) h = absurd h
 again-after A net (Some same) reading answer e law (Vectors refusal) h =
     let is : same ≡ reading = cc in
     law refusal (subst (λ (r : vector_readings.Reading). vectors.HasAnswered r refusal) is h)
+
+-- want of memory was answered before
+pub net-memory : (net : Reading) (refusal : NetRefusal) → ((refusal ≡ net_refusals.NoMemory) → net.stopped ≡ Some net_refusals.NoMemory) → IsNoMemory (Net refusal) → net.stopped ≡ Some refusal
+net-memory net (net_refusals.BadLine line) law h = absurd h
+net-memory net net_refusals.Truncated law h = absurd h
+net-memory net (net_refusals.Limit quantity) law h = absurd h
+net-memory net net_refusals.NoMemory law h = law refl
+
+pub vector-memory : (reading : vector_readings.Reading) (refusal : VectorRefusal) → ((refusal ≡ vector_refusals.NoMemory) → vectors.HasAnswered reading vector_refusals.NoMemory)
+    → IsNoMemory (Vectors refusal) → vectors.HasAnswered reading refusal
+vector-memory reading (vector_refusals.BadLine line) law h = absurd h
+vector-memory reading vector_refusals.Truncated law h = absurd h
+vector-memory reading (vector_refusals.Limit quantity) law h = absurd h
+vector-memory reading vector_refusals.NoMemory law h = law refl

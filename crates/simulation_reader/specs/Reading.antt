@@ -54,6 +54,12 @@ OrMemory (Net net_refusals.NoMemory) fact = ⊤
 OrMemory (Vectors vector_refusals.NoMemory) fact = ⊤
 OrMemory refusal fact = fact
 
+-- a refusal is want of memory
+abbrev pub IsNoMemory : InputRefusal → Type 0
+IsNoMemory (Net net_refusals.NoMemory) = ⊤
+IsNoMemory (Vectors vector_refusals.NoMemory) = ⊤
+IsNoMemory refusal = ⊥
+
 -- an answer is this refusal, or want of memory
 abbrev pub Answers : {A : Type 0} → Result A InputRefusal → Option InputRefusal → Type 0
 Answers (Ok x) shown = shown ≡ None

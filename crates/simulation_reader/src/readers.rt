@@ -1,13 +1,13 @@
 //! A netlist's text and then a text of vectors, by the readers of both.
 
-ghost use Rattle.std.specs.Prelude.{◌≡◌, ◌≤◌, ◌++◌, [], ℕ, Bool, List, None, Some, Err, OnOk, drop, length};
+ghost use Rattle.std.specs.Prelude.{◌≡◌, ◌≤◌, ◌++◌, [], ℕ, Bool, List, None, Some, Err, IfErr, OnOk, drop, length};
 ghost use Rattle.netlist_reader.specs.declared.refusals.NetRefusal.{NetRefusal};
 ghost use Rattle.schedule_replay.specs.declared.refusals.VectorRefusal.{VectorRefusal};
 ghost use Rattle.schedule_replay.specs.Readings.{HasAnswered as HasRefused};
 ghost use Rattle.simulation_reader.specs.declared.refusals.InputRefusal.{InputRefusal};
 ghost use Rattle.simulation_reader.specs.declared.refusals.InputRefusal.TheVariants as refusals;
 ghost use Rattle.simulation_reader.specs.InputTexts.{early, judgement};
-ghost use Rattle.simulation_reader.specs.Reading.{Answers, HasAnswered, HasBegun, HasRead, HasTaken, IsAfter, IsBefore, IsVerdict, KeepsAnswer, OrMemory};
+ghost use Rattle.simulation_reader.specs.Reading.{Answers, HasAnswered, HasAnsweredBy, HasBegun, HasRead, HasTaken, IsAfter, IsBefore, IsNoMemory, IsVerdict, KeepsAnswer, OrMemory};
 
 use crate::refusals::InputRefusal;
 use cell_netlist::Netlist;
@@ -116,10 +116,11 @@ impl SimulationReader {
     }
 
     /// The netlist and its vectors, or why there are none: what the bytes show early, or `Truncated`, of the netlist's
-    /// text or of the vectors'. It takes no memory.
+    /// text or of the vectors'. It takes no memory: want of it comes only where it was answered before.
     pub fn finish(self) -> Result<SimulationInput, InputRefusal>
         ensures verdict { (text : List ℕ) → HasTaken self.scripted text self → IsVerdict result (judgement self.scripted text) }
         ensures again { (refusal : InputRefusal) → HasAnswered self refusal → result ≡ Err refusal }
+        ensures no_memory { (text : List ℕ) → HasTaken self.scripted text self → IfErr result (λ refusal. IsNoMemory refusal → HasAnswered self refusal) }
     {
         let SimulationReader { net, vectors, .. } = self;
         match vectors {
@@ -143,6 +144,7 @@ fn behind(piece: &[u8], used: usize) -> &[u8]
 fn unended(net: NetReader) -> InputRefusal
     ensures verdict { (scripted : Bool) (text : List ℕ) → IsBefore text net → OrMemory result (judgement scripted text ≡ Err result) }
     ensures again { (refusal : NetRefusal) → net.stopped ≡ Some refusal → result ≡ refusals.Net refusal }
+    ensures no_memory { IsNoMemory result → HasAnsweredBy None net result }
 {
     match net.finish() {
         Err(refusal) => return InputRefusal::Net(refusal),
@@ -155,6 +157,7 @@ fn unended(net: NetReader) -> InputRefusal
 fn joined(net: NetReader, vectors: VectorReader) -> Result<SimulationInput, InputRefusal>
     ensures verdict { (scripted : Bool) (text : List ℕ) → IsAfter scripted text net vectors → IsVerdict result (judgement scripted text) }
     ensures again { (refusal : VectorRefusal) → HasRefused vectors refusal → result ≡ Err (refusals.Vectors refusal) }
+    ensures no_memory { (scripted : Bool) (text : List ℕ) → IsAfter scripted text net vectors → IfErr result (λ refusal. IsNoMemory refusal → HasAnsweredBy (Some vectors) net refusal) }
 {
     match vectors.finish() {
         Err(refusal) => Err(InputRefusal::Vectors(refusal)),

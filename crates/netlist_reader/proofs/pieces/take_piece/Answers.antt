@@ -4,7 +4,8 @@ use Rattle.std.proofs.lemmas.Result.{err_from_is_err_and}
 use Rattle.std.proofs.lemmas.List.{take_rest, length-drop}
 use Rattle.word_scan.specs.Reading.{HasRead, text_read}
 use Rattle.word_scan.proofs.CallerLemmasPieces.{part_taken, all_taken, not_zero}
-use Rattle.netlist_reader.specs.Building.{line_read, start, OrMemory}
+use Rattle.word_scan.specs.Lines.{whole_lines}
+use Rattle.netlist_reader.specs.Building.{line_read, start, OrMemory, StopsReading}
 use Rattle.netlist_reader.proofs.pieces.take_piece.Goals as goal
 
 pub returns-in_err-used-clause-err : goal.returns-in_err-used-clause-err
@@ -14,6 +15,14 @@ returns-in_err-used-clause-err c =
     let refusal = c.in_err-used.field-0.0 in
     rw (p.1, p.2) (λ text has. subst (λ (t : List ℕ). OrMemory refusal (text_read line_read start t ≡ Err refusal)) (all_taken text c.args.piece.now read.0 c.loop-alloc.rest.now read.1)
     (c.in_err-used.ensures.err (text ++ read.0) (read.2 text has)))
+
+pub returns-in_err-used-clause-stops : goal.returns-in_err-used-clause-stops
+returns-in_err-used-clause-stops c =
+    let p = err_from_is_err_and c.from_residual.result c.from_residual.ensures.1 in
+    let read = c.loop-alloc.invariant.read in
+    let refusal = c.in_err-used.field-0.0 in
+    rw (p.1, p.2) (λ text has. subst (λ (t : List ℕ). StopsReading (whole_lines t) refusal c.take_line.new.built) (all_taken text c.args.piece.now read.0 c.loop-alloc.rest.now read.1)
+    (c.in_err-used.ensures.stops (text ++ read.0) (read.2 text has)))
 
 pub loop-alloc-preserved : goal.loop-alloc-preserved
 loop-alloc-preserved c =

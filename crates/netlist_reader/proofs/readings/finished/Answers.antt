@@ -16,7 +16,7 @@ returns-then-not-has_ended-clause-err c =
 pub returns-in-Some-clause-err : goal.returns-in-Some-clause-err
 returns-in-Some-clause-err c =
     let r = c.args.reading in
-    λ text read. verdict_shown text c.in-Some.refusal (subst (λ (s : Option NetRefusal). HasStopped s text r.lines r.built r.taken) c.in-Some.is read)
+    λ text read. verdict_shown text c.in-Some.refusal (subst (λ (s : Option NetRefusal). HasStopped s text r.lines r.built r.taken) c.in-Some.is read).0
 
 pub returns-else-not-has_ended-clause-net : goal.returns-else-not-has_ended-clause-net
 returns-else-not-has_ended-clause-net c =

@@ -11,7 +11,8 @@ use Rattle.word_scan.proofs.CallerLemmasLogical.{IsPlainWord}
 use Rattle.source_machine.specs.Machines.{PlainLiteral, PlainEquation, PlainMachine}
 use Rattle.source_machine.specs.Fitting.{Fits, EquationFits, LiteralFits, IsNumbered, size_of, size_of_cubes}
 use Rattle.source_machine.specs.Additions.{with_nets, with_input, with_output}
-use Rattle.source_machine.proofs.CallerLemmas.{bare_fits, bare_equation_fits, more_cube_fits, size_of_cubes-last, size_of_equations-last, more_nets_fit, more_input_fits, more_output_fits, more_equation_fits}
+use Rattle.source_machine.proofs.CallerLemmas.{bare_fits, bare_equation_fits, more_cube_fits, size_of_cubes-last, size_of_equations-last, more_nets_fit, more_input_fits, more_output_fits}
+use Rattle.source_machine.proofs.CallerLemmas.{more_equation_fits}
 use Rattle.blif_reader.specs.declared.refusals.LineRefusal.TheVariants as line_refusals
 use Rattle.blif_reader.specs.declared.refusals.BlifCause.TheVariants as causes
 use Rattle.blif_reader.specs.Rows.{cares_in, literals_of}

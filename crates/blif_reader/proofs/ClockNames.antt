@@ -66,8 +66,7 @@ stand_behind before [] = tt
 stand_behind before (name ∷ names) =
     let all : List (List ℕ) = before ++ name ∷ names in
     let there : stands_in name all ≡ true = list_any-append (λ other. bytes_eq name other) before (name ∷ names)
-    ∙ or_here (stands_in name before) (bytes_eq name name) (stands_in name names) ((bytes_eq-Decides name name).1 refl) in
-    (
+    ∙ or_here (stands_in name before) (bytes_eq name name) (stands_in name names) ((bytes_eq-Decides name name).1 refl) in (
       numbered 1 (firsts all) name ∙ firsts_stand name all ∙ there,
       subst (λ (l : List (List ℕ)). Stands (firsts l) names) (append_assoc before (name ∷ []) names) (stand_behind (before ++ name ∷ []) names),
     )

@@ -8,7 +8,8 @@ use Rattle.numbered_names.specs.Names.{number_in}
 use Rattle.source_machine.specs.declared.unset.Unset.{Unset}
 use Rattle.source_machine.specs.Machines.{PlainLiteral, PlainLatch, PlainEquation, PlainMachine}
 use Rattle.blif_reader.specs.Rows.{literals_of}
-use Rattle.blif_reader.specs.Tellings.{input_words, output_words, equation_words, latch_words, ends_of, names_in, net_of, literal_told, latch_told, last_or, first_word, all_but_last, rows_under, cube_told, equation_told, equations_told, machine_told, nets_told}
+use Rattle.blif_reader.specs.Tellings.{input_words, output_words, equation_words, latch_words, ends_of, names_in, net_of, literal_told, latch_told, last_or, first_word, all_but_last, rows_under}
+use Rattle.blif_reader.specs.Tellings.{cube_told, equation_told, equations_told, machine_told, nets_told}
 use Rattle.blif_reader.specs.ToldVerdicts.{is_among, cares_of, literals_under, row_literals, last_name, latch_input, latch_output, is_read_in, is_made_in}
 use Rattle.blif_reader.proofs.ClockNames.{Stands, stand_apart, firsts_have_numbers}
 
@@ -159,7 +160,8 @@ module _ (nets : List (List ℕ)) (clock : List ℕ) (test : ℕ → Bool) (same
   equations_read [] h = refl
   equations_read (line ∷ lines) h =
       let parts = stand_apart nets (names_in line) (flat_map names_in lines) h in
-      list_any-append (λ equation. list_any (λ cube. list_any (λ literal. test literal.net) cube) equation.cubes) (equation_told nets (equation_words line) (rows_under lines)) (equations_told nets lines)
+      list_any-append (λ equation. list_any (λ cube. list_any (λ literal. test literal.net) cube) equation.cubes) (equation_told nets (equation_words line) (rows_under lines))
+      (equations_told nets lines)
       ∙ both _ _ _ _ (equation_read (equation_words line) (rows_under lines) (equation_stands line parts.0).0) (equations_read lines parts.1)
       ∙ sym (list_any-append (λ other. bytes_eq other clock) (literals_under (equation_words line) (rows_under lines)) (row_literals lines))
 

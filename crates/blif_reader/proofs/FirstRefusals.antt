@@ -83,7 +83,8 @@ module _ (unset : Unset) where
       (append_assoc before (line ∷ []) lines)
       (subst (λ (w : List (List (List ℕ))). Follows (lines_read unset (Ok middle) lines) (first_refusal unset w lines) (words_of ((before ++ line ∷ []) ++ lines))) (words_on before line)
       (lines_follow lines (before ++ line ∷ []) middle
-      (read_joined unset (Ok nothing_read) before (line ∷ []) ∙ ap (λ (r : Result BlifState BlifRefusal). lines_read unset r (line ∷ [])) h ∙ ap (λ (r : Result BlifState LineRefusal). shown_as line.first r) e)
+      (read_joined unset (Ok nothing_read) before (line ∷ []) ∙ ap (λ (r : Result BlifState BlifRefusal). lines_read unset r (line ∷ [])) h ∙ ap
+      (λ (r : Result BlifState LineRefusal). shown_as line.first r) e)
       (subst (λ (w : List (List (List ℕ))). IsTied w middle) (sym (words_on before line)) t))))
 
   pub all_follow : (lines : List LogicalLine) → Follows (lines_read unset (Ok nothing_read) lines) (first_refusal unset [] lines) (words_of lines)

@@ -12,7 +12,8 @@ use Rattle.blif_reader.specs.declared.refusals.BlifRefusal.{BlifRefusal}
 use Rattle.blif_reader.specs.declared.refusals.BlifRefusal.TheVariants as refusals
 use Rattle.blif_reader.specs.declared.readings.Reading.{Reading}
 use Rattle.blif_reader.specs.States.{BlifState, nothing_read}
-use Rattle.blif_reader.specs.Sources.{limit, line_begun, logical_left, lines_left, all_lines, all_logical_lines, lines_read, text_read, refusal_of, too_long, early, whole_source, source_read, PlainSource, judgement, IsVerdictOf}
+use Rattle.blif_reader.specs.Sources.{limit, line_begun, logical_left, lines_left, all_lines, all_logical_lines, lines_read, text_read, refusal_of, too_long, early, whole_source, source_read}
+use Rattle.blif_reader.specs.Sources.{PlainSource, judgement, IsVerdictOf}
 use Rattle.blif_reader.specs.Readings.{HasRead, HasStopped, IsReading, OrMemory}
 use Rattle.blif_reader.proofs.Taking.{or_memory_then, read_joined, read_refused, lines_more, lines_on, begun_lines}
 use Rattle.blif_reader.proofs.Limits.{not_too_long, stands}

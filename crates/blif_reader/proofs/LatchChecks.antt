@@ -18,9 +18,11 @@ use Rattle.blif_reader.specs.declared.refusals.LineRefusal.TheVariants.{Cause}
 use Rattle.blif_reader.specs.declared.latch_kinds.LatchKind.{LatchKind}
 use Rattle.blif_reader.specs.States.{BlifState}
 use Rattle.blif_reader.specs.Refusing.{after, over}
-use Rattle.blif_reader.specs.Latches.{edge_of, first_state, differs_in_type, differs_in_clock, names_clock, is_mixed, with_type, state_given, latch_added, latch_read, untyped_read, typed_read, latch_words_read}
+use Rattle.blif_reader.specs.Latches.{edge_of, first_state, differs_in_type, differs_in_clock, names_clock, is_mixed, with_type, state_given, latch_added, latch_read, untyped_read, typed_read}
+use Rattle.blif_reader.specs.Latches.{latch_words_read}
 use Rattle.blif_reader.specs.Tellings.{names_in, firsts, clocks_in}
-use Rattle.blif_reader.specs.LineRefusals.{first_failed, fails_where, above, net_above, is_latch, kind_refused, is_fixed, is_unfixed, value_refused, differs_from_first, kind_in, control_of, kinds_told, controls_told, is_mixed_told, latch_checks, untyped_refused, typed_refused, latch_refused}
+use Rattle.blif_reader.specs.LineRefusals.{first_failed, fails_where, above, net_above, is_latch, kind_refused, is_fixed, is_unfixed, value_refused, differs_from_first, kind_in, control_of}
+use Rattle.blif_reader.specs.LineRefusals.{kinds_told, controls_told, is_mixed_told, latch_checks, untyped_refused, typed_refused, latch_refused}
 use Rattle.blif_reader.proofs.Checking.{Meets, meets_over, meets_where}
 use Rattle.blif_reader.proofs.NewNets.{firsts_with, meets_net}
 use Rattle.blif_reader.proofs.TiedStates.{HasTold, HasKept, TypedIs, Adds, OpenIs}
@@ -29,7 +31,8 @@ use Rattle.blif_reader.proofs.WordChecks.{differs_as}
 module _ {A : Type 0} (After : A → Type 0) (rest : Option LineRefusal) where
   value_by : (a b c : Bool) (next : Option Bool → Result A LineRefusal)
       → ((init : Option Bool) → cond a (Ok (Some false)) (cond b (Ok (Some true)) (cond c (Ok None) (Err (Cause causes.BadWord)))) ≡ Ok init → is_some init ≡ (a || b) → Meets (next init) rest After)
-      → Meets (after (cond a (Ok (Some false)) (cond b (Ok (Some true)) (cond c (Ok None) (Err (Cause causes.BadWord))))) next) (option_or (fails_where (not ((a || b) || c)) causes.BadWord) rest) After
+      → Meets (after (cond a (Ok (Some false)) (cond b (Ok (Some true)) (cond c (Ok None) (Err (Cause causes.BadWord))))) next)
+      (option_or (fails_where (not ((a || b) || c)) causes.BadWord) rest) After
   value_by true b c next f = f (Some false) refl refl
   value_by false true c next f = f (Some true) refl refl
   value_by false false true next f = f None refl refl

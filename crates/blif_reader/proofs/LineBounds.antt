@@ -19,8 +19,10 @@ use Rattle.blif_reader.specs.declared.refusals.LineRefusal.TheVariants as line_r
 use Rattle.blif_reader.specs.declared.refusals.BlifCause.TheVariants as causes
 use Rattle.blif_reader.specs.Rows.{are_marks, bit_of}
 use Rattle.blif_reader.specs.States.{BlifState, OpenEquation, closed}
-use Rattle.blif_reader.specs.Latches.{net_read, latch_read, latch_added, state_given, clock_read, differs_in_clock, untyped_read, typed_read, latch_words_read, is_mixed, with_type, edge_of, first_state}
-use Rattle.blif_reader.specs.Statements.{model_read, input_read, output_read, column_read, names_read, end_read, is_passed_over, statement_read, bit_added, row_added, row_read_by, words_read, text_line_read}
+use Rattle.blif_reader.specs.Latches.{net_read, latch_read, latch_added, state_given, clock_read, differs_in_clock, untyped_read, typed_read, latch_words_read, is_mixed, with_type, edge_of}
+use Rattle.blif_reader.specs.Latches.{first_state}
+use Rattle.blif_reader.specs.Statements.{model_read, input_read, output_read, column_read, names_read, end_read, is_passed_over, statement_read, bit_added, row_added, row_read_by, words_read}
+use Rattle.blif_reader.specs.Statements.{text_line_read}
 use Rattle.blif_reader.specs.Bounds.{IsBounded}
 use Rattle.blif_reader.proofs.Inversions.{either, allowed, over_ok, after_ok, NetRead, net_is_read}
 use Rattle.blif_reader.proofs.Bounding.{kept_bounded, nets_bounded, input_bounded, output_bounded, column_bounded, closed_bounded, bit_bounded}

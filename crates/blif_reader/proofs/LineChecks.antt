@@ -32,7 +32,8 @@ module _ (unset : Unset) (lines : List (List (List ℕ))) (state : BlifState) (t
   begins_model : (words : List (List ℕ)) → state.modelled ≡ false → Then (codes ".model" ∷ words) (record start { modelled = true })
   begins_model words e = (
     record {
-      typed = λ kinds controls t. subst (λ (l : List (List ℕ)). TypedIs start.typed l (controls ++ [])) (sym (append-nil kinds)) (subst (λ (l : List (List ℕ)). TypedIs start.typed kinds l) (sym (append-nil controls)) t);
+      typed = λ kinds controls t. subst (λ (l : List (List ℕ)). TypedIs start.typed l (controls ++ [])) (sym (append-nil kinds))
+          (subst (λ (l : List (List ℕ)). TypedIs start.typed kinds l) (sym (append-nil controls)) t);
       ended = sym (or-false state.ended);
       model = sym (or-true state.modelled);
       size = omega arith;
@@ -58,7 +59,8 @@ module _ (unset : Unset) (lines : List (List (List ℕ))) (state : BlifState) (t
     refl,
     (
       record {
-        typed = λ kinds controls t. subst (λ (l : List (List ℕ)). TypedIs start.typed l (controls ++ [])) (sym (append-nil kinds)) (subst (λ (l : List (List ℕ)). TypedIs start.typed kinds l) (sym (append-nil controls)) t);
+        typed = λ kinds controls t. subst (λ (l : List (List ℕ)). TypedIs start.typed l (controls ++ [])) (sym (append-nil kinds))
+            (subst (λ (l : List (List ℕ)). TypedIs start.typed kinds l) (sym (append-nil controls)) t);
         ended = sym (or-true state.ended);
         model = sym (or-false state.modelled);
         size = omega arith;

@@ -19,9 +19,12 @@ use Rattle.blif_reader.specs.declared.refusals.LineRefusal.TheVariants as line_r
 use Rattle.blif_reader.specs.Rows.{cares_in, row_words, are_marks, bit_of}
 use Rattle.blif_reader.specs.States.{BlifState, OpenEquation, nothing_read, closed}
 use Rattle.blif_reader.specs.Refusing.{after, over}
-use Rattle.blif_reader.specs.Latches.{net_read, edge_of, first_state, is_mixed, with_type, state_given, latch_added, latch_read, untyped_read, typed_read, latch_words_read, differs_in_clock, clock_read}
-use Rattle.blif_reader.specs.Statements.{model_read, input_read, output_read, column_read, names_read, end_read, is_passed_over, statement_read, has_rows, with_row, bit_added, row_added, row_read_by, words_read, text_line_read}
-use Rattle.blif_reader.specs.Sources.{PlainSource, shown_as, line_read, lines_read, logical_lines, text_read, limit, all_logical_lines, clock_cause, source_of, unless_clocked, source_read, judgement, refusal_of}
+use Rattle.blif_reader.specs.Latches.{net_read, edge_of, first_state, is_mixed, with_type, state_given, latch_added, latch_read, untyped_read, typed_read, latch_words_read, differs_in_clock}
+use Rattle.blif_reader.specs.Latches.{clock_read}
+use Rattle.blif_reader.specs.Statements.{model_read, input_read, output_read, column_read, names_read, end_read, is_passed_over, statement_read, has_rows, with_row, bit_added, row_added}
+use Rattle.blif_reader.specs.Statements.{row_read_by, words_read, text_line_read}
+use Rattle.blif_reader.specs.Sources.{PlainSource, shown_as, line_read, lines_read, logical_lines, text_read, limit, all_logical_lines, clock_cause, source_of, unless_clocked, source_read}
+use Rattle.blif_reader.specs.Sources.{judgement, refusal_of}
 use Rattle.blif_reader.specs.Laws.{IsOfBytes}
 
 -- a line's refusal is one of its bytes

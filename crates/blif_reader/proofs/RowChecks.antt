@@ -1,5 +1,6 @@
 -- The checks of a row.
-use Rattle.std.proofs.Common.{◌≡◌, ℕ, ◌+◌, ◌-◌, ◌⊎◌, inl, inr, Bool, true, false, not, ◌||◌, ◌&&◌, ◌==◌, cond, List, [], ◌∷◌, ◌++◌, length, Option, Some, None, Ok, Err, codes, refl, sym, ap, subst, ◌∙◌, arith}
+use Rattle.std.proofs.Common.{◌≡◌, ℕ, ◌+◌, ◌-◌, ◌⊎◌, inl, inr, Bool, true, false, not, ◌||◌, ◌&&◌, ◌==◌, cond, List, [], ◌∷◌, ◌++◌, length, Option, Some, None, Ok, Err, codes, refl, sym, ap}
+use Rattle.std.proofs.Common.{subst, ◌∙◌, arith}
 use Rattle.std.specs.Prelude.{slice_index}
 use Rattle.std.specs.Bool.{beq}
 use Rattle.std.specs.Option.{option_or}
@@ -83,7 +84,8 @@ ends_on on bit [] (first ∷ rows) row n h e f = absurd (omega (arith, n))
 ends_on on bit (cube ∷ cubes) (first ∷ rows) row n h e f = end_on on bit (first ∷ rows) row h (same_bit on bit e) f
 
 module _ (lines : List (List (List ℕ))) (state : BlifState) (kept : HasKept lines state) (first : List ℕ) (words : List (List ℕ)) (plain : (slice_index first 0 == 46) ≡ false)
-    (typed : (kinds controls : List (List ℕ)) → TypedIs state.typed kinds controls → TypedIs state.typed (kinds ++ kind_in (latch_words (first ∷ words))) (controls ++ control_of (latch_words (first ∷ words))))
+    (typed : (kinds controls : List (List ℕ)) → TypedIs state.typed kinds controls → TypedIs state.typed (kinds ++ kind_in (latch_words (first ∷ words)))
+    (controls ++ control_of (latch_words (first ∷ words))))
     (end : is_end (first ∷ words) ≡ false) (model : is_model (first ∷ words) ≡ false) (latch : is_latch (first ∷ words) ≡ false) where
   -- what a row leaves
   abbrev pub Rows : OpenNames → BlifState → Type 0
@@ -135,7 +137,8 @@ module _ (lines : List (List (List ℕ))) (state : BlifState) (kept : HasKept li
     bit_by false true e = added true (sym e)
     bit_by false false e = refl
 
-    shape_by : (fits : Bool) → Meets (cond fits (bit_added state unended marks (bit_of word)) (Err (Cause causes.RowShape))) (option_or (fails_where (not (fits && is_bit word)) causes.RowShape) after_shape) Then
+    shape_by : (fits : Bool) → Meets (cond fits (bit_added state unended marks (bit_of word)) (Err (Cause causes.RowShape)))
+        (option_or (fails_where (not (fits && is_bit word)) causes.RowShape) after_shape) Then
     shape_by true = bit_by (bytes_eq word (codes "0")) (bytes_eq word (codes "1")) refl
     shape_by false = refl
 
@@ -176,7 +179,8 @@ module _ (lines : List (List (List ℕ))) (state : BlifState) (kept : HasKept li
   Leaves None next = ⊥
   Leaves (Some told) next = Rows told next
 
-  pub row_meets : (unended : Option OpenEquation) (told : Option OpenNames) → OpenIs unended told → Meets (row_read_by state unended (first ∷ words)) (row_refused lines told (first ∷ words)) (Leaves told)
+  pub row_meets : (unended : Option OpenEquation) (told : Option OpenNames) → OpenIs unended told
+      → Meets (row_read_by state unended (first ∷ words)) (row_refused lines told (first ∷ words)) (Leaves told)
   row_meets None None is = refl
   row_meets None (Some told) is = absurd is
   row_meets (Some unended) None is = absurd is

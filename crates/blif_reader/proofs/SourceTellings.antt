@@ -17,7 +17,8 @@ use Rattle.pulse_ids.specs.declared.quantities.Quantity.TheVariants as quantitie
 use Rattle.source_machine.specs.declared.places.Place.TheVariants.{Whole}
 use Rattle.blif_reader.specs.States.{BlifState, OpenEquation, nothing_read, closed, with_open}
 use Rattle.blif_reader.specs.Statements.{text_line_read}
-use Rattle.blif_reader.specs.Sources.{PlainSource, source_of, shown_as, refusal_at, line_read, lines_read, all_logical_lines, limit, fault_at, clock_cause, unless_clocked, source_read, early, judgement}
+use Rattle.blif_reader.specs.Sources.{PlainSource, source_of, shown_as, refusal_at, line_read, lines_read, all_logical_lines, limit, fault_at, clock_cause, unless_clocked, source_read, early}
+use Rattle.blif_reader.specs.Sources.{judgement}
 use Rattle.blif_reader.specs.Tellings.{names_in, nets_told, rows_under, equations_told, clock_told, clock_words, has_words, AllRowsAgree, machine_told, source_told, words_of}
 use Rattle.blif_reader.specs.Laws.{FirstRefused}
 use Rattle.blif_reader.proofs.Taking.{read_refused}

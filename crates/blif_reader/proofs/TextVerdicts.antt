@@ -16,9 +16,11 @@ use Rattle.blif_reader.specs.declared.refusals.BlifCause.TheVariants as causes
 use Rattle.blif_reader.specs.declared.refusals.BlifRefusal.{BlifRefusal}
 use Rattle.blif_reader.specs.declared.refusals.BlifRefusal.TheVariants as refusals
 use Rattle.blif_reader.specs.States.{BlifState, nothing_read, closed}
-use Rattle.blif_reader.specs.Sources.{PlainSource, source_of, refusal_of, lines_read, logical_lines, all_logical_lines, limit, too_long, fault_at, is_data, is_derived, is_input, clock_cause, unless_clocked, whole_source, source_read, early, judgement}
+use Rattle.blif_reader.specs.Sources.{PlainSource, source_of, refusal_of, lines_read, logical_lines, all_logical_lines, limit, too_long, fault_at, is_data, is_derived, is_input, clock_cause}
+use Rattle.blif_reader.specs.Sources.{unless_clocked, whole_source, source_read, early, judgement}
 use Rattle.blif_reader.specs.Tellings.{input_words, clock_words, net_of, nets_told, clock_told, has_words, source_told, machine_told, words_of}
-use Rattle.blif_reader.specs.ToldVerdicts.{first_refusal, is_among, is_read_in, is_made_in, is_declared_in, clock_refused_by, whole_refused, unless_refused_by, lines_judged, early_told, judgement_told}
+use Rattle.blif_reader.specs.ToldVerdicts.{first_refusal, is_among, is_read_in, is_made_in, is_declared_in, clock_refused_by, whole_refused, unless_refused_by, lines_judged, early_told}
+use Rattle.blif_reader.specs.ToldVerdicts.{judgement_told}
 use Rattle.blif_reader.proofs.ClockNames.{net_is}
 use Rattle.blif_reader.proofs.ClockUses.{reads_by, makes_by, none_read, none_made, read_named, made_named, input_named, none_passes}
 use Rattle.blif_reader.proofs.FirstRefusals.{first_told}

@@ -70,7 +70,8 @@ latch_by : (b : Bool) (line : List (List ℕ)) → length (cond b (line ∷ []) 
 latch_by true line = refl
 latch_by false line = refl
 
-latches_by : (b c : Bool) (first : List (List ℕ)) (more less : List (List (List ℕ))) → length more ≡ length less + cond c 1 0 → length (cond b (first ∷ more) more) ≡ length (cond b (first ∷ less) less) + cond c 1 0
+latches_by : (b c : Bool) (first : List (List ℕ)) (more less : List (List (List ℕ))) → length more ≡ length less + cond c 1 0 → length (cond b (first ∷ more) more)
+    ≡ length (cond b (first ∷ less) less) + cond c 1 0
 latches_by true c first more less h = omega (arith, h)
 latches_by false c first more less h = h
 

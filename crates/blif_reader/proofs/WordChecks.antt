@@ -93,7 +93,8 @@ module _ (lines : List (List (List ℕ))) (start : BlifState) (told : HasTold li
         refl,
         record {
           nets = nets_on state before name h.nets;
-          ports_are = length_push state.machine.outputs (record { net = number_for state.nets name; negated = false }) ∙ ap (λ k. k + 1) h.ports_are ∙ count_on (flat_map output_words lines) before name;
+          ports_are = length_push state.machine.outputs (record { net = number_for state.nets name; negated = false }) ∙ ap (λ k. k + 1) h.ports_are
+              ∙ count_on (flat_map output_words lines) before name;
           same = record { typed = h.same.typed; ended = h.same.ended; model = h.same.model; size = h.same.size; latches = h.same.latches };
           unended = h.unended;
         },
@@ -125,7 +126,8 @@ module _ (lines : List (List (List ℕ))) (start : BlifState) (told : HasTold li
     same : Same start state
     begun : BegunIs state.unended before
 
-  column_meets : (before : List (List ℕ)) (state : BlifState) (name : List ℕ) → Columned before state → Meets (column_read state name) (column_refused lines before name) (Columned (before ++ name ∷ []))
+  column_meets : (before : List (List ℕ)) (state : BlifState) (name : List ℕ) → Columned before state
+      → Meets (column_read state name) (column_refused lines before name) (Columned (before ++ name ∷ []))
   column_meets before state name h =
       let Then : BlifState → Type 0 = Columned (before ++ name ∷ []) in
       meets_over Then quantities.NameBytes (length name) _ _

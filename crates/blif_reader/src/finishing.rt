@@ -13,7 +13,8 @@ ghost use Rattle.source_machine.specs.Additions.{with_nets};
 ghost use Rattle.blif_reader.specs.declared.refusals.BlifRefusal.{BlifRefusal};
 ghost use Rattle.blif_reader.specs.States.{closed};
 ghost use Rattle.blif_reader.specs.Bounds.{IsBounded};
-ghost use Rattle.blif_reader.specs.Sources.{limit, line_begun, logical_left, lines_left, lines_closed, NamesNet, lines_read, is_read, is_made, is_input, in_rows, in_cube, is_data, is_derived, clock_cause, PlainSource, source_of, whole_source, judgement, IsVerdictOf, IsMachineCause, IsMachineRefusal};
+ghost use Rattle.blif_reader.specs.Sources.{limit, line_begun, logical_left, lines_left, lines_closed, NamesNet, lines_read, is_read, is_made, is_input, in_rows, in_cube, is_data, is_derived};
+ghost use Rattle.blif_reader.specs.Sources.{clock_cause, PlainSource, source_of, whole_source, judgement, IsVerdictOf, IsMachineCause, IsMachineRefusal};
 ghost use Rattle.blif_reader.specs.Readings.{IsSafe, IsReading, OrMemory, HasAnswered};
 
 use crate::pieces::{read_line, read_logical};

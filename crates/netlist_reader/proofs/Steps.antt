@@ -1,5 +1,6 @@
 -- Each line that is read leads from what was built of the lines before it to what is built with it.
-use Rattle.std.proofs.Common.{◌≡◌, ◌≤◌, ◌+◌, ◌&&◌, ◌||◌, ℕ, cond, eqb, leb, Bool, true, false, Option, Some, None, Result, Ok, Err, List, [], ◌∷◌, ◌++◌, length, refl, sym, ap, subst, ◌∙◌, append-nil, arith}
+use Rattle.std.proofs.Common.{◌≡◌, ◌≤◌, ◌+◌, ◌&&◌, ◌||◌, ℕ, cond, eqb, leb, Bool, true, false, Option, Some, None, Result, Ok, Err, List, [], ◌∷◌, ◌++◌, length, refl, sym, ap, subst, ◌∙◌}
+use Rattle.std.proofs.Common.{append-nil, arith}
 use Rattle.std.specs.Prelude.{option_map, unwrap_or}
 use Rattle.std.specs.List.{flat_map, list_all, list_any}
 use Rattle.std.proofs.lemmas.Bool.{le-leb, leb-true, eqb-true}
@@ -17,7 +18,8 @@ use Rattle.netlist_reader.specs.declared.refusals.NetRefusal.{NetRefusal}
 use Rattle.netlist_reader.specs.declared.refusals.NetRefusal.TheVariants as refusals
 use Rattle.netlist_reader.specs.Statements.{statement_in}
 use Rattle.netlist_reader.specs.Limits.{limit_of}
-use Rattle.netlist_reader.specs.Places.{rank, section_of, rank_by, input_by, cell_by, output_by, input_name_by, output_name_by, ports_by, inputs_of, outputs_of, netlist_in, follows_lines, fits_port, stands_after, refusal_by, line_refusal, is_end_by, is_end, has_end}
+use Rattle.netlist_reader.specs.Places.{rank, section_of, rank_by, input_by, cell_by, output_by, input_name_by, output_name_by, ports_by, inputs_of, outputs_of, netlist_in, follows_lines}
+use Rattle.netlist_reader.specs.Places.{fits_port, stands_after, refusal_by, line_refusal, is_end_by, is_end, has_end}
 use Rattle.netlist_reader.specs.Building.{follows, inputs_after, with_statement, has_ended_by, has_ended, start, allows, after_statement, unless_over, read_by, line_read}
 use Rattle.netlist_reader.proofs.Bools.{and_parts, and_true, and_false}
 

@@ -1,5 +1,6 @@
 -- Where a refusal stops the reading of lines, and so that of a text, however long it grows.
-use Rattle.std.proofs.Common.{◌≡◌, ◌||◌, ℕ, ◌≤◌, ◌<◌, ◌-◌, cond, ltb, Bool, true, false, List, [], ◌∷◌, ◌++◌, length, take, drop, Option, Some, None, Result, Ok, Err, refl, sym, ap, subst, ◌∙◌, append-nil, append_assoc, arith}
+use Rattle.std.proofs.Common.{◌≡◌, ◌||◌, ℕ, ◌≤◌, ◌<◌, ◌-◌, cond, ltb, Bool, true, false, List, [], ◌∷◌, ◌++◌, length, take, drop, Option, Some, None, Result, Ok, Err, refl, sym, ap, subst, ◌∙◌}
+use Rattle.std.proofs.Common.{append-nil, append_assoc, arith}
 use Rattle.std.specs.Option.{option_or}
 use Rattle.std.proofs.lemmas.Bool.{true≢false, lt-ltb, ltb-true}
 use Rattle.std.proofs.lemmas.List.{take-append-drop, take-append-le, length-append}
@@ -31,8 +32,7 @@ lines_with text piece line old taken part whole at =
     let rest : List ℕ = drop taken.used piece in
     let more : List (List ℕ) = lines_after (begun_after (last_line text) first) rest in
     let ends : lines_after (last_line text) first ≡ line ∷ [] =
-    ap (λ (l : List ℕ). lines_after l first) at.present ∙ part.lines ∙ ap (λ b. cond b (line ∷ []) []) whole in
-    (
+    ap (λ (l : List ℕ). lines_after l first) at.present ∙ part.lines ∙ ap (λ b. cond b (line ∷ []) []) whole in (
       more,
       ap (λ (p : List ℕ). whole_lines (text ++ p)) (sym (take-append-drop taken.used piece)) ∙ lines_joined [] text (first ++ rest)
           ∙ ap (λ (l : List (List ℕ)). whole_lines text ++ l) (lines_joined (last_line text) first rest ∙ ap (λ (l : List (List ℕ)). l ++ more) ends),

@@ -1,5 +1,6 @@
 -- The text of a netlist is read back.
-use Rattle.std.proofs.Common.{◌≡◌, ◌^◌, ℕ, suc, ◌-◌, ◌≤◌, ltb, cond, true, false, List, [], ◌∷◌, ◌++◌, length, take, map, codes, decimal, Option, None, Result, Err, refl, sym, ap, subst, ◌∙◌, append_assoc, append-nil, inl, inr, arith}
+use Rattle.std.proofs.Common.{◌≡◌, ◌^◌, ℕ, suc, ◌-◌, ◌≤◌, ltb, cond, true, false, List, [], ◌∷◌, ◌++◌, length, take, map, codes, decimal, Option, None, Result, Err, refl, sym, ap, subst, ◌∙◌}
+use Rattle.std.proofs.Common.{append_assoc, append-nil, inl, inr, arith}
 use Rattle.std.specs.List.{flat_map}
 use Rattle.std.proofs.lemmas.Bool.{le-ltb, le-leb}
 use Rattle.std.proofs.lemmas.List.{map-append, length-append, take_all}
@@ -26,7 +27,8 @@ use Rattle.netlist_reader.proofs.Lines.{passed_over}
 use Rattle.netlist_reader.proofs.Texts.{done, lines_read, built_by, early_is}
 use Rattle.netlist_reader.proofs.WrittenLines.{spaced, line_is, head_read, end_read, ports_line_read}
 use Rattle.netlist_reader.proofs.Sections.{Leads, all_added, one_read, free_more, section_read}
-use Rattle.netlist_reader.proofs.NetParts.{input_written, cell_written, output_written, input_name_written, output_name_written, inputs_added, cells_added, outputs_added, input_names_added, output_names_added, input_names_in, output_names_in}
+use Rattle.netlist_reader.proofs.NetParts.{input_written, cell_written, output_written, input_name_written, output_name_written, inputs_added, cells_added, outputs_added, input_names_added}
+use Rattle.netlist_reader.proofs.NetParts.{output_names_added, input_names_in, output_names_in}
 use Rattle.netlist_reader.proofs.RisingPorts.{InputsFit, OutputsFit, input_now, output_now, input_next, output_next, fit_first}
 
 -- lines that are written and taken

@@ -1,5 +1,6 @@
 -- What a text shows stays shown as it grows.
-use Rattle.std.proofs.Common.{◌≡◌, ℕ, ◌+◌, ◌-◌, ◌<◌, ◌≤◌, Bool, true, false, ltb, inl, inr, List, [], ◌∷◌, ◌++◌, length, take, Option, Some, None, Err, refl, sym, ap, ◌∙◌, append_assoc, append-nil, arith, subst}
+use Rattle.std.proofs.Common.{◌≡◌, ℕ, ◌+◌, ◌-◌, ◌<◌, ◌≤◌, Bool, true, false, ltb, inl, inr, List, [], ◌∷◌, ◌++◌, length, take, Option, Some, None, Err, refl, sym, ap, ◌∙◌, append_assoc}
+use Rattle.std.proofs.Common.{append-nil, arith, subst}
 use Rattle.std.specs.Option.{option_or}
 use Rattle.std.proofs.lemmas.Bool.{lt-ltb, le-ltb, cases_lt}
 use Rattle.std.proofs.lemmas.List.{length-append, take_all, take-append-le}
@@ -12,7 +13,8 @@ use Rattle.schedule_replay.specs.declared.vector_lines.Form.{Form}
 use Rattle.schedule_replay.specs.declared.vector_lines.Due.{Due}
 use Rattle.schedule_replay.specs.declared.vector_lines.Due.TheVariants.{Head, Vector, Excite, Relax, Nothing}
 use Rattle.schedule_replay.specs.declared.tables.Table.{Table}
-use Rattle.schedule_replay.specs.VectorTexts.{due_after, vectors_in, number_after, refusal_at, line_refusal, first_refusal, limit, end_refusal, shown_by, early, judgement, unless_shown, said_by, vectors_of}
+use Rattle.schedule_replay.specs.VectorTexts.{due_after, vectors_in, number_after, refusal_at, line_refusal, first_refusal, limit, end_refusal, shown_by, early, judgement, unless_shown, said_by}
+use Rattle.schedule_replay.specs.VectorTexts.{vectors_of}
 use Rattle.schedule_replay.specs.Readings.{lines_so_far, HasReadLines}
 use Rattle.schedule_replay.specs.Laws.{EarlyStands}
 use Rattle.schedule_replay.proofs.Tracking.{right_so_far, wrong_so_far}

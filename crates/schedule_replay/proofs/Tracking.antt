@@ -1,5 +1,6 @@
 -- The table that lines lead to is that of their vectors and scripts, where none of them is refused.
-use Rattle.std.proofs.Common.{◌≡◌, ℕ, ◌+◌, ◌&&◌, Bool, true, false, cond, eqb, ltb, List, [], ◌∷◌, ◌++◌, length, Option, Some, None, Result, Ok, Err, refl, sym, ap, ◌∙◌, append_assoc, append-nil, arith, subst, codes}
+use Rattle.std.proofs.Common.{◌≡◌, ℕ, ◌+◌, ◌&&◌, Bool, true, false, cond, eqb, ltb, List, [], ◌∷◌, ◌++◌, length, Option, Some, None, Result, Ok, Err, refl, sym, ap, ◌∙◌, append_assoc}
+use Rattle.std.proofs.Common.{append-nil, arith, subst, codes}
 use Rattle.std.specs.List.{onto_first}
 use Rattle.std.specs.Option.{option_or}
 use Rattle.std.specs.Str.{bytes_eq}
@@ -19,7 +20,8 @@ use Rattle.schedule_replay.specs.declared.vector_lines.Due.{Due}
 use Rattle.schedule_replay.specs.declared.vector_lines.Due.TheVariants.{Head, Vector, Excite, Relax, Nothing}
 use Rattle.schedule_replay.specs.declared.tables.Table.{Table}
 use Rattle.schedule_replay.specs.VectorLines.{bits_of, spaced, vector_of, script_of, script_in}
-use Rattle.schedule_replay.specs.VectorTexts.{due_next, due_from, due_after, items_of, vectors_in, scripts_in, vector_refusal, script_refusal, refusal_at, number_after, line_refusal, first_refusal, unless_shown}
+use Rattle.schedule_replay.specs.VectorTexts.{due_next, due_from, due_after, items_of, vectors_in, scripts_in, vector_refusal, script_refusal, refusal_at, number_after, line_refusal}
+use Rattle.schedule_replay.specs.VectorTexts.{first_refusal, unless_shown}
 use Rattle.schedule_replay.specs.Tables.{whole, table_of, table_bad, passed_by, after_vector, added_read, script_read, due_read, line_read}
 use Rattle.schedule_replay.specs.Readings.{lines_so_far, HasReadLines}
 

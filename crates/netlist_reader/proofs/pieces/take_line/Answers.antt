@@ -50,7 +50,8 @@ returns-in_err-read-clause-stops c =
     let p = err_from_is_err_and c.from_residual.result c.from_residual.ensures.1 in
     let refusal = c.in_err-read.field-0.0 in
     let line = c.in-Some.line.now in
-    rw (p.1, p.2) (λ text has. stopped_line text c.args.piece.now line c.args.lines.now c.args.built.now c.read.new.self (whole_part line) refusal c.in-Some.ensures.whole.part refl has c.requires.going
+    rw (p.1, p.2) (λ text has. stopped_line text c.args.piece.now line c.args.lines.now c.args.built.now c.read.new.self
+    (whole_part line) refusal c.in-Some.ensures.whole.part refl has c.requires.going
     c.in_err-read.ensures.err c.in_err-read.ensures.counted c.in_err-read.ensures.known)
 
 pub returns-in_err-taken-clause-stops : goal.returns-in_err-taken-clause-stops

@@ -11,9 +11,11 @@ class Netlist:
     def __init__(self, text):
         self.input_rails, self.cells, self.output_rails = [], [], []
         self.input_names, self.output_names = {}, {}
+        self.states = []  # (latch, cell), in version 2
         lines = text.split("\n")
-        if len(lines) < 4 or lines[0] != "xsfq 1" or lines[-2:] != ["end", ""]:
+        if len(lines) < 4 or lines[0] not in ("xsfq 1", "xsfq 2") or lines[-2:] != ["end", ""]:
             raise ValueError("this is no netlist")
+        self.version = int(lines[0].split(" ")[1])
         for number, line in enumerate(lines[1:-2], 2):
             try:
                 self.take(line.split(" "), line)
@@ -38,6 +40,9 @@ class Netlist:
             role, preload, feed, q, n = fields
             outputs = [None if wire == "-" else int(wire) for wire in (q, n)]
             self.cells.append((kind, role, int(preload), int(feed), *outputs))
+        elif kind == "state" and self.version == 2:
+            latch, cell = map(int, fields)
+            self.states.append((latch, cell))
         elif kind in ("iname", "oname"):
             names = self.input_names if kind == "iname" else self.output_names
             names[int(fields[0])] = line.split(" ", 2)[2]

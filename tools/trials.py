@@ -4,7 +4,8 @@ import random
 import shutil
 import subprocess
 
-from netlists import Pulses
+from netlists import DROC, Netlist, Pulses
+from sources import read_aiger
 
 SIGNS = {"p": "p", "n": "n", "both": "pn"}  # the rails that `compile --rails` makes of each output
 
@@ -39,9 +40,9 @@ def run(program, *words, text):
     return subprocess.run([program, *words], input=text.encode("latin-1") if isinstance(text, str) else text, capture_output=True)
 
 
-def compiled(program, source, ask):
+def compiled(program, source, ask, version="1"):
     """The netlist's text, or a ValueError with the program's code and note."""
-    done = run(program, "compile", "--rails", ask, text=source)
+    done = run(program, "compile", "--rails", ask, "--format", version, text=source)
     if done.returncode != 0:
         raise ValueError(f"code {done.returncode}, {done.stderr.decode('latin-1').strip()}")
     return done.stdout.decode("latin-1")
@@ -71,6 +72,27 @@ def run_pulses(trial, netlist, ask, vectors):
     trial.cycles += len(vectors)
     trial.pulses += pulses.delivered
     return answers
+
+
+def run_states(trial, source, first, ask, vectors):
+    """In version 2 the state lines name all backs, each of which holds its latch's bit where a cycle begins and at the end, in random order.
+
+    The netlist's text in version 1 is given; but for the state lines they are alike."""
+    text = compiled(trial.program, source, ask, "2")
+    if [line for line in text.split("\n") if not line.startswith("state ")] != ["xsfq 2", *first.split("\n")[1:]]:
+        raise ValueError("version 2 differs in more than state lines")
+    netlist, circuit = Netlist(text), read_aiger(source)
+    if [cell for _, cell in netlist.states] != [place for place, cell in enumerate(netlist.cells) if cell[:2] == (DROC, "b")]:
+        raise ValueError("the state lines are not those of the backs")
+    pulses = Pulses(netlist, trial.draw.random)
+    for cycle, vector in enumerate([*vectors, None]):
+        if any(pulses.bit[cell] != circuit.state[latch] for latch, cell in netlist.states):
+            raise ValueError(f"a back holds another bit than its latch where cycle {cycle} begins")
+        if vector is not None:
+            pulses.cycle(vector)
+            circuit.step(vector)
+    trial.cycles += len(vectors)
+    trial.pulses += pulses.delivered
 
 
 def run_program(trial, text, ask, vectors, answers):

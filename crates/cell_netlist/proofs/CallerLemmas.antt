@@ -11,6 +11,8 @@ pub use Rattle.cell_netlist.proofs.Refusals.{first_refusal, grounded-known}
 pub use Rattle.cell_netlist.proofs.Roots.{root_unique, root_found, Splits-out}
 pub use Rattle.cell_netlist.proofs.RootsInRuns.{wires_carry_root_bits}
 pub use Rattle.cell_netlist.proofs.SoundDecisions.{is_sound-at, none_driven_twice-is, SplittersBelow-one_more}
+pub use Rattle.cell_netlist.proofs.StateDecisions.{names_back-at, names_back-from}
+pub use Rattle.cell_netlist.proofs.StateLemmas.{StateFits, no_states_right, states_few, states_fit}
 pub use Rattle.cell_netlist.proofs.TableLemmas.{written-append, written-length, written-one, written_rail, written_cell}
 pub use Rattle.cell_netlist.proofs.UpsetCells.{upsets_are_of_cells, reading_cells_are_upset}
 pub use Rattle.cell_netlist.proofs.WireBounds.{wire_bound-append, wire_below, occurrences-past, number_of_wires-parts, number_of_wires-input, number_of_wires-output, number_of_wires-cell, number_of_wires-fed, driven_within, read_within}

@@ -1,4 +1,4 @@
--- The equations of the toggle flip-flop, and the texts of two netlists.
+-- The equations of the toggle flip-flop, and the texts of three netlists.
 use Rattle.std.proofs.Common.{◌≡◌, Bool, true, false, not, List, [], ◌∷◌, map, length, refl, ap, inl, inr, arith, ◌∙◌}
 use Rattle.std.proofs.lemmas.Fmt.{decimal_digit}
 use Rattle.pulse_ids.specs.Lists.{bit_at}
@@ -52,4 +52,4 @@ texts_are_these =
     let d6 = decimal_digit 6 (omega arith) in
     let d7 = decimal_digit 7 (omega arith) in
     let d8 = decimal_digit 8 (omega arith) in
-    (simp (d0, d1), simp (d0, d1, d2, d3, d4, d5, d6, d7, d8))
+    (simp (d0, d1), simp (d0, d1, d2, d3, d4, d5, d6, d7, d8), simp (d0, d1, d2, d3, d4, d5, d6, d7, d8))

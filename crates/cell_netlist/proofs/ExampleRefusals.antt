@@ -3,13 +3,16 @@ use Rattle.std.proofs.Common.{◌≡◌, ℕ, Bool, true, false, Some, [], ◌�
 use Rattle.pulse_ids.specs.Ids.{numbered}
 use Rattle.pulse_ids.specs.declared.literals.Sign.TheVariants.{Pos}
 use Rattle.cell_netlist.specs.declared.kinds.Role.TheVariants.{Front, Back, Const}
+use Rattle.cell_netlist.specs.declared.kinds.Version.TheVariants.{Two}
 use Rattle.cell_netlist.specs.declared.lines.Cell.{Cell}
 use Rattle.cell_netlist.specs.declared.unsound.Unsound.TheVariants.{Loop, WrongPreload}
-use Rattle.cell_netlist.specs.Netlists.{PlainNetlist}
+use Rattle.cell_netlist.specs.Netlists.{PlainNetlist, with_states}
 use Rattle.pulse_ids.specs.Lists.{IsIn}
 use Rattle.cell_netlist.specs.Sound.{Breaks, IsDrocOf, IsFrontTo, IsBackFrom}
-use Rattle.cell_netlist.specs.ExampleNetlists.{rail, la, looped, droc, on, unused, plain}
+use Rattle.cell_netlist.specs.ExampleNetlists.{rail, la, looped, droc, on, state, toggle, unused, plain}
 use Rattle.cell_netlist.specs.ExampleRefusals.{BreaksAlone, RulesAreRefused, FirstIsRefused}
+use Rattle.std.proofs.lemmas.Bool.{true≢false}
+use Rattle.cell_netlist.proofs.StateDecisions.{names_back-from}
 use Rattle.cell_netlist.proofs.Refusals.{first_refusal, grounded-known}
 
 -- a back with no front, and a front with no back
@@ -68,6 +71,9 @@ rules_are_refused = (
   record { first = first_refusal _ _ (droc Front true 0 (on 1) unused, refl, λ fits. loose_front fits.1 fits.3 fits.4) refl; others = refl },
   record { first = first_refusal _ _ (droc Const true 0 (on 1) unused, refl, λ fits. fits.1) refl; others = refl },
   record { first = first_refusal _ _ (clear_pair_breaks _ refl (inr (inr (inl refl)))) refl; others = refl },
+  record { first = first_refusal _ _ (state 3 2, refl, inl (λ named. true≢false (sym (names_back-from (with_states Two (state 0 0 ∷ state 3 2 ∷ []) toggle) (state 3 2) named)))) refl; others = refl },
+  record { first = first_refusal _ _ (state 0 3, refl, inl (λ named. true≢false (sym (names_back-from (with_states Two (state 0 3 ∷ []) toggle) (state 0 3) named)))) refl; others = refl },
+  record { first = first_refusal _ _ (state 1 0, refl, inr (0, state 0 0, omega arith, refl, refl)) refl; others = refl },
 )
 
 pub first_is_refused : FirstIsRefused

@@ -4,7 +4,7 @@ use Rattle.std.proofs.lemmas.Bool.{cases_eq, cases_lt}
 use Rattle.pulse_ids.specs.Ids.{numbered}
 use Rattle.cell_netlist.specs.declared.unsound.RailLine.TheVariants.{Input, Output}
 use Rattle.cell_netlist.specs.declared.unsound.Unsound.{Unsound}
-use Rattle.cell_netlist.specs.declared.unsound.Unsound.TheVariants.{WireUndriven, WireTwiceDriven, WireUnread, WireTwiceRead, PortRange, RailTwice, Loop, LooseDroc, WrongPreload}
+use Rattle.cell_netlist.specs.declared.unsound.Unsound.TheVariants.{WireUndriven, WireTwiceDriven, WireUnread, WireTwiceRead, PortRange, RailTwice, Loop, LooseDroc, WrongPreload, LooseState}
 use Rattle.pulse_ids.specs.Lists.{occurrences}
 use Rattle.cell_netlist.specs.Netlists.{PlainNetlist, driven, read}
 use Rattle.cell_netlist.specs.Sound.{IsSound, Breaks, rule_of, number_in, IsFirstUnsound}
@@ -27,6 +27,8 @@ sound_unbroken net sound (Loop id) b = b.5 (sound.grounded b.0 (IsIn-place b.0 _
 sound_unbroken net sound (LooseDroc id) b = b.2 (sound.roles b.0 (IsIn-place b.0 _ id.number b.1))
 sound_unbroken net sound (WrongPreload id) b =
     b.7 (sound.preloads b.2 b.4 b.3 b.6 (record { back = b.0; among = IsIn-place b.0 _ id.number b.1; role = b.5 }))
+sound_unbroken net sound (LooseState k) (line, at_line, inl loose) = loose (sound.states.backs line (IsIn-place line _ k at_line))
+sound_unbroken net sound (LooseState k) (line, at_line, inr before) = sound.states.apart k line at_line before
 
 -- the refusal of a place in the order of the rules, at a number
 abbrev pub refusal_at : ℕ → ℕ → Unsound
@@ -35,7 +37,7 @@ refusal_at rule n =
     else if rule == 3 then WireUnread (numbered n) else if rule == 4 then WireTwiceRead (numbered n)
     else if rule == 5 then PortRange (Input (numbered n)) else if rule == 6 then PortRange (Output (numbered n))
     else if rule == 7 then RailTwice (numbered n) else if rule == 8 then Loop (numbered n)
-    else if rule == 9 then LooseDroc (numbered n) else WrongPreload (numbered n)
+    else if rule == 9 then LooseDroc (numbered n) else if rule == 10 then WrongPreload (numbered n) else LooseState n
 
 -- a refusal is the one at its place and number
 pub refusal_is : (unsound : Unsound) → unsound ≡ refusal_at (rule_of unsound) (number_in unsound)
@@ -49,6 +51,7 @@ refusal_is (RailTwice id) = refl
 refusal_is (Loop id) = refl
 refusal_is (LooseDroc id) = refl
 refusal_is (WrongPreload id) = refl
+refusal_is (LooseState k) = refl
 
 same_place : (one other : Unsound) → rule_of one ≡ rule_of other → number_in one ≡ number_in other → one ≡ other
 same_place one other rule number =

@@ -1,6 +1,8 @@
 pub mod NetlistLemmas
 pub mod NameLemmas
 pub mod ListLemmas
+pub mod StateLemmas
+pub mod StateDecisions
 pub mod SoundDecisions
 pub mod Roots
 pub mod LeanDecisions

@@ -7,15 +7,19 @@ use Rattle.pulse_ids.specs.declared.literals.Sign.{Sign}
 use Rattle.pulse_ids.specs.declared.literals.Sign.TheVariants.{Pos, Neg}
 use Rattle.cell_netlist.specs.declared.kinds.Role.{Role}
 use Rattle.cell_netlist.specs.declared.kinds.Role.TheVariants.{Front, Back, Const}
+use Rattle.cell_netlist.specs.declared.kinds.Version.{Version}
+use Rattle.cell_netlist.specs.declared.kinds.Version.TheVariants.{One, Two}
 use Rattle.cell_netlist.specs.declared.lines.Rail.{Rail}
+use Rattle.cell_netlist.specs.declared.lines.StateLine.{StateLine}
 use Rattle.cell_netlist.specs.declared.lines.Cell.{Cell}
 use Rattle.cell_netlist.specs.declared.lines.Cell.TheVariants.{La, Fa, Split, Droc}
 use Rattle.pulse_ids.specs.Lists.{IsIn}
 use Rattle.cell_netlist.specs.Netlists.{wire_of, used, outs, reads}
-use Rattle.cell_netlist.specs.Text.{line_of, sign_word, role_word, bit_word, output_word, rail_words, cell_words, name_words}
+use Rattle.cell_netlist.specs.Text.{line_of, sign_word, role_word, bit_word, output_word, version_word, rail_words, cell_words, state_words, name_words}
 use Rattle.cell_netlist.specs.Decisions.{has}
 use Rattle.pulse_ids.proofs.CallerLemmas.{IsIn-append, IsIn-left, IsIn-right}
 use Rattle.cell_netlist.proofs.ListLemmas.{has-from}
+use Rattle.cell_netlist.proofs.StateLemmas.{StateFits}
 
 -- a byte stands nowhere in a word
 abbrev pub Without : ℕ → List ℕ → Type 0
@@ -74,6 +78,18 @@ sign-word t Pos lt b (inl e) same = omega arith
 sign-word t Pos lt b (inr none) same = none
 sign-word t Neg lt b (inl e) same = omega arith
 sign-word t Neg lt b (inr none) same = none
+
+pub same_version : (v w : Version) → version_word v ≡ version_word w → v ≡ w
+same_version One One e = refl
+same_version One Two e = absurd (omega (arith, ap first_byte e))
+same_version Two One e = absurd (omega (arith, ap first_byte e))
+same_version Two Two e = refl
+
+pub version-word : (t : ℕ) (v : Version) → t < 48 → Without t (version_word v)
+version-word t One lt b (inl e) same = omega arith
+version-word t One lt b (inr none) same = none
+version-word t Two lt b (inl e) same = omega arith
+version-word t Two lt b (inr none) same = none
 
 pub same_role : (r s : Role) → role_word r ≡ role_word s → r ≡ s
 same_role Front Front e = refl
@@ -198,6 +214,13 @@ cell_code (Droc role preload feed q n) (Droc its_role its_preload its_feed its_q
           ∙ ap (λ x. Droc its_role its_preload its_feed its_q x) (same_output n its_n n_fits its_n_fits e6.0),
       e6.1,
     )
+
+pub state_code : (r s : StateLine) (xs ys : List ℕ) → StateFits r → StateFits s → line_of (state_words r) ++ xs ≡ line_of (state_words s) ++ ys → (r ≡ s) × (xs ≡ ys)
+state_code r s xs ys f g e =
+    let e1 = field 32 (codes "state") (codes "state") _ _ xs ys (without 32 (codes "state") refl) (without 32 (codes "state") refl) e in
+    let e2 = number 32 (omega arith) r.latch s.latch f.latch g.latch _ _ xs ys e1.1 in
+    let e3 = number 10 (omega arith) r.cell.number s.cell.number f.cell g.cell [] [] xs ys e2.1 in
+    (ap (λ x. record r { latch = x }) e2.0 ∙ ap (λ n. record s { cell = numbered n }) e3.0, e3.1)
 
 pub name_code : (side : List ℕ) → Without 32 side → (r s : ℕ × List ℕ) (xs ys : List ℕ) → NameFits r → NameFits s
     → line_of (name_words side r) ++ xs ≡ line_of (name_words side s) ++ ys → (r ≡ s) × (xs ≡ ys)

@@ -34,6 +34,7 @@ IsKept-input net wires rail kept room port wire = record {
     wires = rw (number_of_wires-input net rail) (omega arith);
     input_names = kept.netlist.input_names;
     output_names = kept.netlist.output_names;
+    states = kept.netlist.states;
   };
   few = record {
     input_rails = one-more net.input_rails rail room;
@@ -54,6 +55,7 @@ IsKept-output net wires rail kept room port wire = record {
     wires = rw (number_of_wires-output net rail) (omega arith);
     input_names = kept.netlist.input_names;
     output_names = kept.netlist.output_names;
+    states = kept.netlist.states;
   };
   few = record {
     input_rails = kept.few.input_rails;
@@ -74,6 +76,7 @@ IsKept-cell net wires cell kept room bound = record {
     wires = rw (number_of_wires-cell net cell) (let old = kept.netlist.wires in omega arith);
     input_names = kept.netlist.input_names;
     output_names = kept.netlist.output_names;
+    states = kept.netlist.states;
   };
   few = record {
     input_rails = kept.few.input_rails;
@@ -99,6 +102,7 @@ IsKept-fed net wires c wire kept droc bound = record {
     wires = rw (number_of_wires-fed net c wire droc) (let old = kept.netlist.wires in omega arith);
     input_names = kept.netlist.input_names;
     output_names = kept.netlist.output_names;
+    states = kept.netlist.states;
   };
   few = record {
     input_rails = kept.few.input_rails;
@@ -135,6 +139,7 @@ kept_with_input_name net wires port bytes kept range above name = record {
     wires = kept.netlist.wires;
     input_names = AreNamesFrom-behind 0 net.inputs port net.input_names bytes kept.netlist.input_names (omega arith) above range name;
     output_names = kept.netlist.output_names;
+    states = kept.netlist.states;
   };
   few = record { input_rails = kept.few.input_rails; cells = kept.few.cells; output_rails = kept.few.output_rails };
   wires_are = kept.wires_are;
@@ -152,6 +157,7 @@ kept_with_output_name net wires port bytes kept range above name = record {
     wires = kept.netlist.wires;
     input_names = kept.netlist.input_names;
     output_names = AreNamesFrom-behind 0 net.outputs port net.output_names bytes kept.netlist.output_names (omega arith) above range name;
+    states = kept.netlist.states;
   };
   few = record { input_rails = kept.few.input_rails; cells = kept.few.cells; output_rails = kept.few.output_rails };
   wires_are = kept.wires_are;

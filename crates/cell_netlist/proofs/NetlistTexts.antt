@@ -8,16 +8,18 @@ use Rattle.cell_netlist.specs.declared.lines.Cell.TheVariants.{La, Fa, Split, Dr
 use Rattle.pulse_ids.specs.Lists.{IsIn}
 use Rattle.cell_netlist.specs.Names.{AreNamesFrom}
 use Rattle.cell_netlist.specs.Netlists.{PlainNetlist, wire_of, outs, reads, driven, read, IsNetlist}
-use Rattle.cell_netlist.specs.Text.{line_of, rail_words, cell_words, name_words, text_of}
+use Rattle.cell_netlist.specs.Text.{line_of, version_word, rail_words, cell_words, state_words, name_words, text_of}
 use Rattle.pulse_ids.proofs.CallerLemmas.{IsIn-left, IsIn-right, IsIn-map, IsIn-flat_map}
 use Rattle.cell_netlist.proofs.WireBounds.{wire_below}
 use Rattle.pulse_ids.proofs.CallerLemmas.{All-IsIn}
-use Rattle.cell_netlist.proofs.LineTexts.{without, field, number, rail_code, cell_code, name_code, RailFits, CellFits, NameFits}
+use Rattle.cell_netlist.proofs.LineTexts.{without, field, number, same_version, version-word, rail_code, cell_code, state_code, name_code, RailFits, CellFits, NameFits}
+use Rattle.cell_netlist.proofs.StateLemmas.{StateFits, states_fit}
 
--- which section a line belongs to, by its first bytes: input rails, cells, output rails, input names, output
--- names, the end
+-- which section a line belongs to, by its first bytes: input rails, cells, output rails, state lines, input names,
+-- output names, the end
 abbrev rank_by : ℕ → ℕ → ℕ → ℕ
-rank_by a b c = if a == 105 then (if c == 112 then 0 else 3) else if a == 111 then (if b == 117 then 2 else 4) else if a == 101 then 5 else 1
+rank_by a b c = if a == 105 then (if c == 112 then 0 else 4) else if a == 111 then (if b == 117 then 2 else 5)
+    else if a == 115 then (if b == 116 then 3 else 1) else if a == 101 then 6 else 1
 
 abbrev rank : List ℕ → ℕ
 rank [] = 0
@@ -76,8 +78,11 @@ from_output_names net rest = flat_map (λ x. line_of (name_words (codes "oname")
 abbrev pub from_input_names : PlainNetlist → List ℕ → List ℕ
 from_input_names net rest = flat_map (λ x. line_of (name_words (codes "iname") x)) net.input_names ++ from_output_names net rest
 
+abbrev pub from_states : PlainNetlist → List ℕ → List ℕ
+from_states net rest = flat_map (λ x. line_of (state_words x)) net.states ++ from_input_names net rest
+
 abbrev pub from_output_rails : PlainNetlist → List ℕ → List ℕ
-from_output_rails net rest = flat_map (λ x. line_of (rail_words (codes "output") x)) net.output_rails ++ from_input_names net rest
+from_output_rails net rest = flat_map (λ x. line_of (rail_words (codes "output") x)) net.output_rails ++ from_states net rest
 
 abbrev pub from_cells : PlainNetlist → List ℕ → List ℕ
 from_cells net rest = flat_map (λ x. line_of (cell_words x)) net.cells ++ from_output_rails net rest
@@ -88,18 +93,19 @@ from_input_rails net rest = flat_map (λ x. line_of (rail_words (codes "input") 
 abbrev pub ports_line : PlainNetlist → List ℕ
 ports_line net = line_of (codes "ports" ∷ decimal net.inputs ∷ decimal net.outputs ∷ [])
 
-spread : {X : Type 0} (f : X → List ℕ) (p q last : X) (b c d e g : List X) (rest : List ℕ)
-    → flat_map f (((((((p ∷ q ∷ []) ++ b) ++ c) ++ d) ++ e) ++ g) ++ last ∷ []) ++ rest
-    ≡ f p ++ (f q ++ (flat_map f b ++ (flat_map f c ++ (flat_map f d ++ (flat_map f e ++ (flat_map f g ++ (f last ++ rest)))))))
-spread f p q last b c d e g rest = simp (flat_map-append, append_assoc, append-nil)
+spread : {X : Type 0} (f : X → List ℕ) (p q last : X) (b c d s e g : List X) (rest : List ℕ)
+    → flat_map f ((((((((p ∷ q ∷ []) ++ b) ++ c) ++ d) ++ s) ++ e) ++ g) ++ last ∷ []) ++ rest
+    ≡ f p ++ (f q ++ (flat_map f b ++ (flat_map f c ++ (flat_map f d ++ (flat_map f s ++ (flat_map f e ++ (flat_map f g ++ (f last ++ rest))))))))
+spread f p q last b c d s e g rest = simp (flat_map-append, append_assoc, append-nil)
 
 -- a netlist's text and more bytes, line by line and section by section
-pub text_spread : (net : PlainNetlist) (rest : List ℕ) → text_of net ++ rest ≡ line_of (codes "xsfq" ∷ codes "1" ∷ []) ++ (ports_line net ++ from_input_rails net rest)
+pub text_spread : (net : PlainNetlist) (rest : List ℕ) → text_of net ++ rest ≡ line_of (codes "xsfq" ∷ version_word net.version ∷ []) ++ (ports_line net ++ from_input_rails net rest)
 text_spread net rest =
-    spread line_of (codes "xsfq" ∷ codes "1" ∷ []) (codes "ports" ∷ decimal net.inputs ∷ decimal net.outputs ∷ []) (codes "end" ∷ [])
+    spread line_of (codes "xsfq" ∷ version_word net.version ∷ []) (codes "ports" ∷ decimal net.inputs ∷ decimal net.outputs ∷ []) (codes "end" ∷ [])
     (map (rail_words (codes "input")) net.input_rails)
     (map cell_words net.cells)
     (map (rail_words (codes "output")) net.output_rails)
+    (map state_words net.states)
     (map (name_words (codes "iname")) net.input_names)
     (map (name_words (codes "oname")) net.output_names)
     rest
@@ -107,6 +113,7 @@ text_spread net rest =
       flat_map-map line_of (rail_words (codes "input")) net.input_rails,
       flat_map-map line_of cell_words net.cells,
       flat_map-map line_of (rail_words (codes "output")) net.output_rails,
+      flat_map-map line_of state_words net.states,
       flat_map-map line_of (name_words (codes "iname")) net.input_names,
       flat_map-map line_of (name_words (codes "oname")) net.output_names,
     ) refl
@@ -140,35 +147,42 @@ module _ (net : PlainNetlist) (shape : IsNetlist net) where
   }
 
 same_netlist : (m n : PlainNetlist) → m.inputs ≡ n.inputs → m.outputs ≡ n.outputs → m.input_rails ≡ n.input_rails → m.cells ≡ n.cells
-    → m.output_rails ≡ n.output_rails → m.input_names ≡ n.input_names → m.output_names ≡ n.output_names → m ≡ n
-same_netlist m n e1 e2 e3 e4 e5 e6 e7 =
+    → m.output_rails ≡ n.output_rails → m.input_names ≡ n.input_names → m.output_names ≡ n.output_names → m.version ≡ n.version → m.states ≡ n.states → m ≡ n
+same_netlist m n e1 e2 e3 e4 e5 e6 e7 e8 e9 =
     ap (λ x. record m { inputs = x }) e1
     ∙ ap (λ x. record m { inputs = n.inputs; outputs = x }) e2
     ∙ ap (λ x. record m { inputs = n.inputs; outputs = n.outputs; input_rails = x }) e3
-    ∙ ap (λ x. record n { cells = x; output_rails = m.output_rails; input_names = m.input_names; output_names = m.output_names }) e4
-    ∙ ap (λ x. record n { output_rails = x; input_names = m.input_names; output_names = m.output_names }) e5
-    ∙ ap (λ x. record n { input_names = x; output_names = m.output_names }) e6
-    ∙ ap (λ x. record n { output_names = x }) e7
+    ∙ ap (λ x. record n { cells = x; output_rails = m.output_rails; input_names = m.input_names; output_names = m.output_names; version = m.version; states = m.states }) e4
+    ∙ ap (λ x. record n { output_rails = x; input_names = m.input_names; output_names = m.output_names; version = m.version; states = m.states }) e5
+    ∙ ap (λ x. record n { input_names = x; output_names = m.output_names; version = m.version; states = m.states }) e6
+    ∙ ap (λ x. record n { output_names = x; version = m.version; states = m.states }) e7
+    ∙ ap (λ x. record n { version = x; states = m.states }) e8
+    ∙ ap (λ x. record n { states = x }) e9
 
 -- where each section's tail ranks
 module _ (net : PlainNetlist) (rest : List ℕ) where
-  after_output_names : 5 ≤ rank (from_end rest)
+  after_output_names : 6 ≤ rank (from_end rest)
   after_output_names = omega arith
 
-  output_names_rank : (low : ℕ) → low ≤ 4 → low ≤ rank (from_output_names net rest)
+  output_names_rank : (low : ℕ) → low ≤ 5 → low ≤ rank (from_output_names net rest)
   output_names_rank low le =
-      section_rank (λ x. line_of (name_words (codes "oname") x)) NameFits 4 (λ x xs. refl) (name_code (codes "oname") (without 32 (codes "oname") refl))
+      section_rank (λ x. line_of (name_words (codes "oname") x)) NameFits 5 (λ x xs. refl) (name_code (codes "oname") (without 32 (codes "oname") refl))
       net.output_names (from_end rest) low le (omega (arith, after_output_names))
 
-  input_names_rank : (low : ℕ) → low ≤ 3 → low ≤ rank (from_input_names net rest)
+  input_names_rank : (low : ℕ) → low ≤ 4 → low ≤ rank (from_input_names net rest)
   input_names_rank low le =
-      section_rank (λ x. line_of (name_words (codes "iname") x)) NameFits 3 (λ x xs. refl) (name_code (codes "iname") (without 32 (codes "iname") refl))
+      section_rank (λ x. line_of (name_words (codes "iname") x)) NameFits 4 (λ x xs. refl) (name_code (codes "iname") (without 32 (codes "iname") refl))
       net.input_names (from_output_names net rest) low le (output_names_rank low (omega arith))
+
+  states_rank : (low : ℕ) → low ≤ 3 → low ≤ rank (from_states net rest)
+  states_rank low le =
+      section_rank (λ x. line_of (state_words x)) StateFits 3 (λ x xs. refl) state_code
+      net.states (from_input_names net rest) low le (input_names_rank low (omega arith))
 
   output_rails_rank : (low : ℕ) → low ≤ 2 → low ≤ rank (from_output_rails net rest)
   output_rails_rank low le =
       section_rank (λ x. line_of (rail_words (codes "output") x)) RailFits 2 (λ x xs. refl) (rail_code (codes "output") (without 32 (codes "output") refl))
-      net.output_rails (from_input_names net rest) low le (input_names_rank low (omega arith))
+      net.output_rails (from_states net rest) low le (states_rank low (omega arith))
 
   cells_rank : (low : ℕ) → low ≤ 1 → low ≤ rank (from_cells net rest)
   cells_rank low le =
@@ -177,9 +191,11 @@ module _ (net : PlainNetlist) (rest : List ℕ) where
 
 pub texts_are_no_prefixes : (m n : PlainNetlist) → IsNetlist m → IsNetlist n → (rest : List ℕ) → text_of m ++ rest ≡ text_of n → (m ≡ n) × (rest ≡ [])
 texts_are_no_prefixes m n f g rest e =
-    let whole : ports_line m ++ from_input_rails m rest ≡ ports_line n ++ from_input_rails n [] =
-    ap (drop 7) (sym (text_spread m rest) ∙ e ∙ sym (append-nil (text_of n)) ∙ text_spread n []) in
-    let e1 = field 32 (codes "ports") (codes "ports") _ _ (from_input_rails m rest) (from_input_rails n []) (without 32 (codes "ports") refl) (without 32 (codes "ports") refl) whole in
+    let name = field 32 (codes "xsfq") (codes "xsfq") _ _ (ports_line m ++ from_input_rails m rest) (ports_line n ++ from_input_rails n [])
+    (without 32 (codes "xsfq") refl) (without 32 (codes "xsfq") refl) (sym (text_spread m rest) ∙ e ∙ sym (append-nil (text_of n)) ∙ text_spread n []) in
+    let version = field 10 (version_word m.version) (version_word n.version) [] [] (ports_line m ++ from_input_rails m rest) (ports_line n ++ from_input_rails n [])
+    (version-word 10 m.version (omega arith)) (version-word 10 n.version (omega arith)) name.1 in
+    let e1 = field 32 (codes "ports") (codes "ports") _ _ (from_input_rails m rest) (from_input_rails n []) (without 32 (codes "ports") refl) (without 32 (codes "ports") refl) version.1 in
     let inputs = number 32 (omega arith) m.inputs n.inputs f.inputs g.inputs _ _ (from_input_rails m rest) (from_input_rails n []) e1.1 in
     let outputs = number 10 (omega arith) m.outputs n.outputs f.outputs g.outputs [] [] (from_input_rails m rest) (from_input_rails n []) inputs.1 in
     let input_rails =
@@ -192,16 +208,20 @@ texts_are_no_prefixes m n f g rest e =
     (output_rails_rank m rest 2 (omega arith)) (output_rails_rank n [] 2 (omega arith)) input_rails.1 in
     let output_rails =
     section_code (λ x. line_of (rail_words (codes "output") x)) RailFits 2 (λ x xs. refl) (rail_code (codes "output") (without 32 (codes "output") refl))
-    m.output_rails n.output_rails (output_fits m f) (output_fits n g) (from_input_names m rest) (from_input_names n [])
-    (input_names_rank m rest 3 (omega arith)) (input_names_rank n [] 3 (omega arith)) cells.1 in
+    m.output_rails n.output_rails (output_fits m f) (output_fits n g) (from_states m rest) (from_states n [])
+    (states_rank m rest 3 (omega arith)) (states_rank n [] 3 (omega arith)) cells.1 in
+    let states =
+    section_code (λ x. line_of (state_words x)) StateFits 3 (λ x xs. refl) state_code
+    m.states n.states (states_fit m.version m.states f.states) (states_fit n.version n.states g.states) (from_input_names m rest) (from_input_names n [])
+    (input_names_rank m rest 4 (omega arith)) (input_names_rank n [] 4 (omega arith)) output_rails.1 in
     let input_names =
-    section_code (λ x. line_of (name_words (codes "iname") x)) NameFits 3 (λ x xs. refl) (name_code (codes "iname") (without 32 (codes "iname") refl))
+    section_code (λ x. line_of (name_words (codes "iname") x)) NameFits 4 (λ x xs. refl) (name_code (codes "iname") (without 32 (codes "iname") refl))
     m.input_names n.input_names (name-fits 0 m.inputs m.input_names f.input_names f.inputs) (name-fits 0 n.inputs n.input_names g.input_names g.inputs)
     (from_output_names m rest) (from_output_names n [])
-    (output_names_rank m rest 4 (omega arith)) (output_names_rank n [] 4 (omega arith)) output_rails.1 in
+    (output_names_rank m rest 5 (omega arith)) (output_names_rank n [] 5 (omega arith)) states.1 in
     let output_names =
-    section_code (λ x. line_of (name_words (codes "oname") x)) NameFits 4 (λ x xs. refl) (name_code (codes "oname") (without 32 (codes "oname") refl))
+    section_code (λ x. line_of (name_words (codes "oname") x)) NameFits 5 (λ x xs. refl) (name_code (codes "oname") (without 32 (codes "oname") refl))
     m.output_names n.output_names (name-fits 0 m.outputs m.output_names f.output_names f.outputs) (name-fits 0 n.outputs n.output_names g.output_names g.outputs)
     (from_end rest) (from_end [])
     (after_output_names m rest) (after_output_names n []) input_names.1 in
-    (same_netlist m n inputs.0 outputs.0 input_rails.0 cells.0 output_rails.0 input_names.0 output_names.0, ap (drop 4) output_names.1)
+    (same_netlist m n inputs.0 outputs.0 input_rails.0 cells.0 output_rails.0 input_names.0 output_names.0 (same_version m.version n.version version.0) states.0, ap (drop 4) output_names.1)

@@ -9,15 +9,16 @@ use Rattle.cell_netlist.specs.declared.lines.Cell.TheVariants.{La, Fa, Split, Dr
 use Rattle.cell_netlist.specs.declared.kinds.Role.TheVariants.{Back}
 use Rattle.cell_netlist.specs.declared.unsound.RailLine.TheVariants.{Input, Output}
 use Rattle.cell_netlist.specs.declared.unsound.Unsound.{Unsound}
-use Rattle.cell_netlist.specs.declared.unsound.Unsound.TheVariants.{WireUndriven, WireTwiceDriven, WireUnread, WireTwiceRead, PortRange, RailTwice, Loop, LooseDroc, WrongPreload}
+use Rattle.cell_netlist.specs.declared.unsound.Unsound.TheVariants.{WireUndriven, WireTwiceDriven, WireUnread, WireTwiceRead, PortRange, RailTwice, Loop, LooseDroc, WrongPreload, LooseState}
 use Rattle.pulse_ids.specs.Lists.{IsIn, occurrences}
 use Rattle.cell_netlist.specs.Netlists.{PlainNetlist, outs, driven, read, number_of_wires, IsDroc, Grounded}
 use Rattle.cell_netlist.specs.RailEquations.{is_back_from, preload_of}
-use Rattle.cell_netlist.specs.Sound.{IsDrocOf, FitsRole, IsFrontTo, IsSound, Breaks, rule_of, number_in, ComesBefore, IsFirstUnsound}
+use Rattle.cell_netlist.specs.Sound.{IsDrocOf, FitsRole, IsFrontTo, NamesBack, IsNamedBefore, IsSound, Breaks, rule_of, number_in, ComesBefore, IsFirstUnsound}
 use Rattle.cell_netlist.specs.Decisions.{is_some_with, has, is_same_sign, known_after, are_outs_known, fits_role, link_of, differ, have_right_preloads, is_none_driven_twice}
 use Rattle.pulse_ids.proofs.CallerLemmas.{place_of}
 use Rattle.cell_netlist.proofs.ListLemmas.{list_all-at, is_some_with-at, has-at, has-from}
 use Rattle.cell_netlist.proofs.SoundDecisions.{same_sign-at, same_sign-from, known_after-grounded, fits-at, right_preloads-at, back-at, differ-at, none_driven_twice-is}
+use Rattle.cell_netlist.proofs.StateDecisions.{decide_back, decide_state}
 use Rattle.cell_netlist.proofs.Refusals.{bound, in_bound}
 use Rattle.cell_netlist.proofs.FirstRefusals.{refusal_at, refusal_is}
 use Rattle.cell_netlist.proofs.GroundedDecision.{list_all-not}
@@ -79,6 +80,13 @@ module _ (net : PlainNetlist) where
           absurd (none (WrongPreload (numbered place.0))
           (of_back.back, place.1, link, back, front, of_back.role, of_front, λ e. true≢false (sym (differ-from net front back e) ∙ alike)))
     ];
+    states = record {
+      backs = λ line among. elim (decide_back net line) [
+        | inl back ↦ back
+        | inr loose ↦ let place = place_of line net.states among in absurd (none (LooseState place.0) (line, place.1, inl loose))
+      ];
+      apart = λ k line at_line before. none (LooseState k) (line, at_line, inr before);
+    };
   }
 
   -- the rail of this number has the same port and sign
@@ -181,9 +189,11 @@ module _ (net : PlainNetlist) where
     | inl found ↦ let its = found.2 in inl (found.0, found.1, its.0, its.1, its.2, its.3, its.4, its.5)
     | inr none ↦ inr (λ b. none (b.0, b.1, (b.2, b.3, b.4, b.5, b.6, b.7)))
   ]
+  decide_breaks (LooseState k) once =
+      decide_item net.states k (λ line. (NamesBack net line → ⊥) ⊎ IsNamedBefore net k line) (λ line among. decide_state net k line)
 
 -- the place and number of the refusal at a place
-at_place : (r n : ℕ) → r < 10 → (rule_of (refusal_at (suc r) n) ≡ suc r) × (number_in (refusal_at (suc r) n) ≡ n)
+at_place : (r n : ℕ) → r < 11 → (rule_of (refusal_at (suc r) n) ≡ suc r) × (number_in (refusal_at (suc r) n) ≡ n)
 at_place zero n lt = (refl, refl)
 at_place (suc zero) n lt = (refl, refl)
 at_place (suc (suc zero)) n lt = (refl, refl)
@@ -194,10 +204,11 @@ at_place (suc (suc (suc (suc (suc (suc zero)))))) n lt = (refl, refl)
 at_place (suc (suc (suc (suc (suc (suc (suc zero))))))) n lt = (refl, refl)
 at_place (suc (suc (suc (suc (suc (suc (suc (suc zero)))))))) n lt = (refl, refl)
 at_place (suc (suc (suc (suc (suc (suc (suc (suc (suc zero))))))))) n lt = (refl, refl)
-at_place (suc (suc (suc (suc (suc (suc (suc (suc (suc (suc r)))))))))) n lt = absurd (omega arith)
+at_place (suc (suc (suc (suc (suc (suc (suc (suc (suc (suc zero)))))))))) n lt = (refl, refl)
+at_place (suc (suc (suc (suc (suc (suc (suc (suc (suc (suc (suc r))))))))))) n lt = absurd (omega arith)
 
 -- each refusal has a place
-place_is : (unsound : Unsound) → (r : ℕ) × (rule_of unsound ≡ suc r) × (r < 10)
+place_is : (unsound : Unsound) → (r : ℕ) × (rule_of unsound ≡ suc r) × (r < 11)
 place_is (WireUndriven wire) = (0, refl, omega arith)
 place_is (WireTwiceDriven wire) = (1, refl, omega arith)
 place_is (WireUnread wire) = (2, refl, omega arith)
@@ -208,6 +219,7 @@ place_is (RailTwice id) = (6, refl, omega arith)
 place_is (Loop id) = (7, refl, omega arith)
 place_is (LooseDroc id) = (8, refl, omega arith)
 place_is (WrongPreload id) = (9, refl, omega arith)
+place_is (LooseState k) = (10, refl, omega arith)
 
 module _ (net : PlainNetlist) where
   -- the rule of this place, counted from 0, is broken at a number
@@ -218,7 +230,7 @@ module _ (net : PlainNetlist) where
   BreaksRule r = (n : ℕ) × BreaksAt r n
 
   -- the first number at which a rule is broken, where no earlier rule is
-  first_number : (r : ℕ) → r < 10 → ((k : ℕ) → k < r → BreaksRule k → ⊥)
+  first_number : (r : ℕ) → r < 11 → ((k : ℕ) → k < r → BreaksRule k → ⊥)
       → ((n : ℕ) → BreaksAt r n → ⊥) ⊎ ((n : ℕ) × BreaksAt r n × ((k : ℕ) → k < n → BreaksAt r k → ⊥))
   first_number r lt earlier = elim (first_of (BreaksAt r) (bound net) (λ n below before. decide_breaks net (refusal_at (suc r) n) (once n))) [
     | inl none ↦ none_below none
@@ -232,7 +244,7 @@ module _ (net : PlainNetlist) where
           → ((n : ℕ) → BreaksAt r n → ⊥) ⊎ ((n : ℕ) × BreaksAt r n × ((k : ℕ) → k < n → BreaksAt r k → ⊥))
       none_below none = inl (λ n b. none n (subst (λ k. k < bound net) (at_place r n lt).1 (in_bound net (refusal_at (suc r) n) b)) b)
 
-  decide_rule : (r : ℕ) → r < 10 → ((k : ℕ) → k < r → BreaksRule k → ⊥) → BreaksRule r ⊎ (BreaksRule r → ⊥)
+  decide_rule : (r : ℕ) → r < 11 → ((k : ℕ) → k < r → BreaksRule k → ⊥) → BreaksRule r ⊎ (BreaksRule r → ⊥)
   decide_rule r lt earlier = elim (first_number r lt earlier) [
     | inl none ↦ inr (λ b. none b.0 b.1)
     | inr found ↦ inl (found.0, found.1)
@@ -244,7 +256,7 @@ module _ (net : PlainNetlist) where
       subst (λ k. Breaks net (refusal_at k (number_in unsound))) e (subst (λ u. Breaks net u) (refusal_is unsound) b)
 
   -- so that refusal is the first
-  first_at : (r n : ℕ) → r < 10 → BreaksAt r n → ((k : ℕ) → k < r → BreaksRule k → ⊥) → ((k : ℕ) → k < n → BreaksAt r k → ⊥)
+  first_at : (r n : ℕ) → r < 11 → BreaksAt r n → ((k : ℕ) → k < r → BreaksRule k → ⊥) → ((k : ℕ) → k < n → BreaksAt r k → ⊥)
       → (other : Unsound) → Breaks net other → ComesBefore other (refusal_at (suc r) n) → ⊥
   first_at r n lt b earlier lower other its (inl before) =
       let place = place_is other in
@@ -256,7 +268,7 @@ module _ (net : PlainNetlist) where
       lower (number_in other) (subst (λ k. number_in other < k) mine.1 same.1) (at_its_place other r (same.0 ∙ mine.0) its)
 
   pub sound_or_refused : IsSound net ⊎ ((unsound : Unsound) × IsFirstUnsound net unsound)
-  sound_or_refused = elim (first_of BreaksRule 10 decide_rule) [
+  sound_or_refused = elim (first_of BreaksRule 11 decide_rule) [
     | inl none ↦ inl (unbroken_sound net (λ unsound b. let place = place_is unsound in none place.0 place.2 (number_in unsound, at_its_place unsound place.0 place.1 b)))
     | inr found ↦ elim (first_number found.0 found.1 found.3) [
       | inl none ↦ let q = found.2 in absurd (none q.0 q.1)

@@ -6,16 +6,18 @@ use Rattle.std.proofs.lemmas.Option.{slice_get_within}
 use Rattle.pulse_ids.specs.Ids.{numbered}
 use Rattle.cell_netlist.specs.declared.lines.Rail.{Rail}
 use Rattle.cell_netlist.specs.declared.lines.Cell.{Cell}
+use Rattle.cell_netlist.specs.declared.lines.StateLine.{StateLine}
 use Rattle.cell_netlist.specs.declared.unsound.RailLine.TheVariants.{Input, Output}
 use Rattle.cell_netlist.specs.declared.unsound.Unsound.{Unsound}
-use Rattle.cell_netlist.specs.declared.unsound.Unsound.TheVariants.{WireUndriven, WireTwiceDriven, WireUnread, WireTwiceRead, PortRange, RailTwice, Loop, LooseDroc, WrongPreload}
+use Rattle.cell_netlist.specs.declared.unsound.Unsound.TheVariants.{WireUndriven, WireTwiceDriven, WireUnread, WireTwiceRead, PortRange, RailTwice, Loop, LooseDroc, WrongPreload, LooseState}
 use Rattle.pulse_ids.specs.Lists.{IsIn, occurrences}
 use Rattle.cell_netlist.specs.Netlists.{PlainNetlist, wire_of, outs, reads, driven, read, number_of_wires, Grounded, of_rail, of_droc, of_gate}
 use Rattle.cell_netlist.specs.Sound.{Breaks, rule_of, number_in, IsFirstUnsound}
-use Rattle.cell_netlist.specs.Decisions.{all_below, has, are_other_rails, droc_outs, is_ready, known_after, are_outs_known, fits_role, have_right_preloads}
+use Rattle.cell_netlist.specs.Decisions.{all_below, has, are_other_rails, droc_outs, is_ready, known_after, are_outs_known, fits_role, have_right_preloads, names_back, name_other_cells}
 use Rattle.pulse_ids.proofs.CallerLemmas.{IsIn-left, IsIn-right, IsIn-map, IsIn-flat_map}
 use Rattle.cell_netlist.proofs.ListLemmas.{all_below-at, list_all-at, list_all-from, has-at, has-from}
 use Rattle.cell_netlist.proofs.SoundDecisions.{other_rails-at, known_after-grounded, fits-at, right_preloads-at, droc_outs-is}
+use Rattle.cell_netlist.proofs.StateDecisions.{names_back-at, other_cells-at}
 use Rattle.cell_netlist.proofs.WireBounds.{occurrences-past, wire_bound-append}
 
 -- a value that is there has the test
@@ -48,6 +50,8 @@ passes net (RailTwice id) =
 passes net (Loop id) = is_none_or (are_outs_known (known_after net (length net.cells))) (slice_get net.cells id.number)
 passes net (LooseDroc id) = is_none_or (fits_role net.cells) (slice_get net.cells id.number)
 passes net (WrongPreload id) = is_none_or (λ back. list_all (λ front. have_right_preloads front back) net.cells) (slice_get net.cells id.number)
+passes net (LooseState k) =
+    is_none_or (λ line. names_back net.cells line && list_all (λ earlier. name_other_cells earlier line) (before k net.states)) (slice_get net.states k)
 
 passes-right : (net : PlainNetlist) (unsound : Unsound) → Breaks net unsound → passes net unsound ≡ true → ⊥
 passes-right net (WireUndriven wire) b e = elim (or_cases (nat_le (number_of_wires net) wire.number) (nat_lt 0 (occurrences wire.number (driven net))) e) [
@@ -78,10 +82,19 @@ passes-right net (WrongPreload id) b e =
     let front = b.6 in
     let t = list_all-at (λ f. have_right_preloads f b.0) net.cells g front.front front.among in
     b.7 (right_preloads-at net front.front b.0 b.4 b.3 front.feed b.2 t front.role front.q b.5)
+passes-right net (LooseState k) b e =
+    let g = subst (λ o. is_none_or (λ (line : StateLine). names_back net.cells line && list_all (λ earlier. name_other_cells earlier line) (before k net.states)) o ≡ true) b.1 e in
+    let both = and_parts _ _ g in
+    elim b.2 [
+      | inl loose ↦ loose (names_back-at net b.0 both.0)
+      | inr twice ↦
+          let t = list_all-at (λ earlier. name_other_cells earlier b.0) (before k net.states) both.1 twice.1 (before-in k twice.0 net.states twice.1 twice.2 twice.3) in
+          other_cells-at twice.1 b.0 t twice.4
+    ]
 
 -- a number that no refusal of the netlist reaches
 abbrev pub bound : PlainNetlist → ℕ
-bound net = number_of_wires net + (length net.input_rails + (length net.output_rails + length net.cells))
+bound net = number_of_wires net + (length net.input_rails + (length net.output_rails + (length net.cells + length net.states)))
 
 pub in_bound : (net : PlainNetlist) (unsound : Unsound) → Breaks net unsound → number_in unsound < bound net
 in_bound net (WireUndriven wire) b = omega (arith, b.0)
@@ -104,6 +117,7 @@ in_bound net (RailTwice id) b = let t = slice_get_within net.input_rails id.numb
 in_bound net (Loop id) b = let t = slice_get_within net.cells id.number b.0 b.1 in omega arith
 in_bound net (LooseDroc id) b = let t = slice_get_within net.cells id.number b.0 b.1 in omega arith
 in_bound net (WrongPreload id) b = let t = slice_get_within net.cells id.number b.0 b.1 in omega arith
+in_bound net (LooseState k) b = let t = slice_get_within net.states k b.0 b.1 in omega arith
 
 -- below which numbers a rule has to hold where a refusal is the first one
 abbrev pub limit : PlainNetlist → Unsound → ℕ → ℕ
@@ -128,7 +142,8 @@ decisions_before net unsound =
     ∷ all_below (λ n. passes net (RailTwice (numbered n))) (limit net unsound 7)
     ∷ all_below (λ n. passes net (Loop (numbered n))) (limit net unsound 8)
     ∷ all_below (λ n. passes net (LooseDroc (numbered n))) (limit net unsound 9)
-    ∷ all_below (λ n. passes net (WrongPreload (numbered n))) (limit net unsound 10) ∷ []
+    ∷ all_below (λ n. passes net (WrongPreload (numbered n))) (limit net unsound 10)
+    ∷ all_below (λ n. passes net (LooseState n)) (limit net unsound 11) ∷ []
 
 abbrev pub all_before : PlainNetlist → Unsound → Bool
 all_before net unsound = list_all (λ b. b) (decisions_before net unsound)
@@ -164,6 +179,9 @@ passes-before net unsound (LooseDroc id) e lt =
 passes-before net unsound (WrongPreload id) e lt =
     all_below-at (λ n. passes net (WrongPreload (numbered n))) (limit net unsound 10)
     (list_all-at (λ b. b) (decisions_before net unsound) e _ (inr (inr (inr (inr (inr (inr (inr (inr (inr (inl refl))))))))))) id.number lt
+passes-before net unsound (LooseState k) e lt =
+    all_below-at (λ n. passes net (LooseState n)) (limit net unsound 11)
+    (list_all-at (λ b. b) (decisions_before net unsound) e _ (inr (inr (inr (inr (inr (inr (inr (inr (inr (inr (inl refl)))))))))))) k lt
 
 pub first_refusal : (net : PlainNetlist) (unsound : Unsound) → Breaks net unsound → all_before net unsound ≡ true → IsFirstUnsound net unsound
 first_refusal net unsound breaks e = record {

@@ -17,6 +17,7 @@ use Rattle.cell_netlist.specs.Decisions as decisions
 use Rattle.cell_netlist.specs.Decisions.{all_below, all_pairs, is_some_with, has, is_same_sign, are_other_rails, droc_outs, is_ready, known_through, known_after, are_outs_known, splits_to, source_of, splitter_above, climbs_to, number_on, fits_role, link_of, differ, have_right_preloads, are_ports_below, is_no_rail_twice, is_sound}
 use Rattle.pulse_ids.proofs.CallerLemmas.{IsIn-append, IsIn-from_map, IsIn-from_flat_map}
 use Rattle.cell_netlist.proofs.ListLemmas.{all_below-at, all_below-from, list_all-at, list_all-from, list_any-at, all_pairs-at, all_pairs-from, is_some_with-at, has-at}
+use Rattle.cell_netlist.proofs.StateDecisions.{states-is}
 
 -- the same sign
 pub same_sign-at : (s t : Sign) → is_same_sign s t ≡ true → s ≡ t
@@ -276,6 +277,7 @@ is_sound-at net e =
     let p7 = and_parts _ _ p6.1 in
     let p8 = and_parts _ _ p7.1 in
     let p9 = and_parts _ _ p8.1 in
+    let p10 = and_parts _ _ p9.1 in
     record {
       wired = record {
         all_driven = (all_driven-is net).0 p1.0;
@@ -288,5 +290,6 @@ is_sound-at net e =
       none_twice = (none_twice-is net).0 p7.0;
       grounded = grounded-at net p8.0;
       roles = roles-at net p9.0;
-      preloads = preloads-at net p9.1;
+      preloads = preloads-at net p10.0;
+      states = (states-is net).0 p10.1;
     }

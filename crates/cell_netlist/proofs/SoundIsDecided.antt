@@ -14,6 +14,7 @@ use Rattle.cell_netlist.specs.Decisions as decisions
 use Rattle.cell_netlist.specs.Decisions.{is_some_with, has, is_ready, known_through, known_after, are_outs_known, source_of, splitter_above, climbs_to, number_on, fits_role, link_of, differ, have_right_preloads, is_none_driven_twice, is_sound, AreDecisionsOfRules}
 use Rattle.cell_netlist.proofs.ListLemmas.{list_all-from, list_any-from, is_some_with-at}
 use Rattle.cell_netlist.proofs.SoundDecisions.{SplittersBelow-one_more, splitter_above-at, back-at, back-from, all_driven-is, none_driven_twice-is, all_read-is, none_read_twice-is, input_ports-is, output_ports-is, none_twice-is, grounded-at, roles-at, preloads-at}
+use Rattle.cell_netlist.proofs.StateDecisions.{states-is}
 use Rattle.cell_netlist.proofs.Roots.{Splits-test, enough, above_is, last_of}
 use Rattle.cell_netlist.proofs.GroundedDecision.{grounded-from}
 
@@ -177,6 +178,7 @@ module _ (net : PlainNetlist) where
     roles = roles-at net;
     fitting = λ once all. list_all-from (fits_role net.cells) net.cells (λ cell among. fits-from once cell (all cell among));
     preloads = (preloads-at net, preloads-from);
+    states = states-is net;
   }
 
   pub is_sound-from : IsSound net → is_sound net ≡ true
@@ -191,4 +193,5 @@ module _ (net : PlainNetlist) where
       (and_from _ _ (told.output_ports.1 sound.output_ports)
       (and_from _ _ (told.none_twice.1 sound.none_twice)
       (and_from _ _ (told.grounded.1 sound.grounded)
-      (and_from _ _ (told.fitting once sound.roles) (told.preloads.1 sound.preloads)))))))))
+      (and_from _ _ (told.fitting once sound.roles)
+      (and_from _ _ (told.preloads.1 sound.preloads) (told.states.1 sound.states))))))))))

@@ -6,12 +6,13 @@ use Rattle.pulse_ids.specs.declared.literals.Sign.{Sign}
 use Rattle.pulse_ids.specs.declared.literals.Sign.TheVariants.{Pos, Neg}
 use Rattle.cell_netlist.specs.declared.kinds.Role.TheVariants.{Front, Back, Const}
 use Rattle.cell_netlist.specs.declared.lines.Rail.{Rail}
+use Rattle.cell_netlist.specs.declared.lines.StateLine.{StateLine}
 use Rattle.cell_netlist.specs.declared.lines.Cell.{Cell}
 use Rattle.cell_netlist.specs.declared.lines.Cell.TheVariants.{Droc}
 use Rattle.pulse_ids.specs.Lists.{IsIn, occurrences}
 use Rattle.cell_netlist.specs.Netlists.{PlainNetlist, wire_of, used, splitter_of, droc_of, outs, reads, driven, read, number_of_wires, IsDroc, Grounded}
 use Rattle.cell_netlist.specs.RailEquations.{is_front_to, is_back_from, preload_of}
-use Rattle.cell_netlist.specs.Sound.{FitsRole, IsFrontTo, IsBackFrom, IsSound}
+use Rattle.cell_netlist.specs.Sound.{FitsRole, IsFrontTo, IsBackFrom, AreStatesRight, IsSound}
 
 -- every number below n has the test
 abbrev pub all_below : (ℕ → Bool) → ℕ → Bool
@@ -148,11 +149,28 @@ have_right_preloads front back =
 abbrev pub is_all_complement : PlainNetlist → Bool
 is_all_complement net = list_all (λ front. list_all (have_right_preloads front) net.cells) net.cells
 
+-- a cell is a back
+abbrev pub is_back : Cell → Bool
+is_back (Droc Back preload feed q n) = true
+is_back cell = false
+
+-- a state line names a back
+abbrev pub names_back : List Cell → StateLine → Bool
+names_back cells line = is_some_with is_back (slice_get cells line.cell.number)
+
+-- two state lines name two cells
+abbrev pub name_other_cells : StateLine → StateLine → Bool
+name_other_cells line other = not (line.cell.number == other.cell.number)
+
+-- each state line names a back, and no two name one cell
+abbrev pub are_states_right : PlainNetlist → Bool
+are_states_right net = list_all (names_back net.cells) net.states && all_pairs name_other_cells net.states
+
 -- all rules of soundness
 abbrev pub is_sound : PlainNetlist → Bool
 is_sound net = is_all_driven net && (is_none_driven_twice net && (is_all_read net && (is_none_read_twice net
     && (are_ports_below net.inputs net.input_rails && (are_ports_below net.outputs net.output_rails
-    && (is_no_rail_twice net && (is_all_grounded net && (is_all_fitting net && is_all_complement net))))))))
+    && (is_no_rail_twice net && (is_all_grounded net && (is_all_fitting net && (is_all_complement net && are_states_right net)))))))))
 
 -- What the decisions tell of a netlist: each exactly its rule, where the rule on roles takes that no wire is driven twice.
 pub record AreDecisionsOfRules (net : PlainNetlist) : Type 0 where
@@ -170,6 +188,7 @@ pub record AreDecisionsOfRules (net : PlainNetlist) : Type 0 where
   pub fitting : is_none_driven_twice net ≡ true → ((cell : Cell) → IsIn cell net.cells → FitsRole net cell) → is_all_fitting net ≡ true
   pub preloads : (is_all_complement net ≡ true)
       ↔ ((link : ℕ) (front back : Bool) → IsFrontTo net link front → IsBackFrom net link back → back ≡ not front)
+  pub states : (are_states_right net ≡ true) ↔ AreStatesRight net
 
 -- the decision on each rule is right on every netlist
 abbrev pub DecisionsOfRulesAreRight : Type 0

@@ -6,6 +6,7 @@ use Rattle.pulse_ids.specs.declared.literals.Sign.TheVariants.{Pos, Neg}
 use Rattle.cell_netlist.specs.declared.kinds.Role.{Role}
 use Rattle.cell_netlist.specs.declared.kinds.Role.TheVariants.{Front, Back, Const}
 use Rattle.cell_netlist.specs.declared.lines.Rail.{Rail}
+use Rattle.cell_netlist.specs.declared.lines.StateLine.{StateLine}
 use Rattle.cell_netlist.specs.declared.lines.Cell.{Cell}
 use Rattle.cell_netlist.specs.declared.lines.Cell.TheVariants as cells
 use Rattle.cell_netlist.specs.Netlists.{PlainNetlist, netlist_of}
@@ -37,6 +38,10 @@ unused = None
 -- a DROC with its feed and its outputs
 abbrev pub droc : Role → Bool → ℕ → Option WireId → Option WireId → Cell
 droc role preload feed q n = cells.Droc role preload (numbered feed) q n
+
+-- a state line of a latch and its cell
+abbrev pub state : ℕ → ℕ → StateLine
+state latch cell = record { latch = latch; cell = numbered cell }
 
 -- a netlist with no names
 abbrev pub plain : ℕ → ℕ → List Rail → List Cell → List Rail → PlainNetlist

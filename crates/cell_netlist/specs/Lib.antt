@@ -1,5 +1,6 @@
 pub mod Names
 pub mod PlainNetlists
+pub mod States
 pub mod Roots
 pub mod Grounding
 pub mod Feeds

@@ -5,11 +5,15 @@ use Rattle.pulse_ids.specs.Ids.{WireId}
 use Rattle.cell_netlist.specs.declared.kinds.Gate.{Gate}
 use Rattle.cell_netlist.specs.declared.kinds.Gate.TheVariants as gates
 use Rattle.cell_netlist.specs.declared.kinds.Role.{Role}
+use Rattle.cell_netlist.specs.declared.kinds.Version.{Version}
+use Rattle.cell_netlist.specs.declared.kinds.Version.TheVariants.{One}
 use Rattle.cell_netlist.specs.declared.lines.Rail.{Rail}
+use Rattle.cell_netlist.specs.declared.lines.StateLine.{StateLine}
 use Rattle.cell_netlist.specs.declared.lines.Cell.{Cell}
 use Rattle.cell_netlist.specs.declared.lines.Cell.TheVariants.{La, Fa, Split, Droc}
 
--- the numbers of ports, the lines in order, and the named ports of each side with their names
+-- the numbers of ports, the lines in order, the named ports of each side with their names, the version, and the
+-- state lines in order
 pub record PlainNetlist : Type 0 where
   pub inputs : ℕ
   pub outputs : ℕ
@@ -18,8 +22,10 @@ pub record PlainNetlist : Type 0 where
   pub output_rails : List Rail
   pub input_names : List (ℕ × List ℕ)
   pub output_names : List (ℕ × List ℕ)
+  pub version : Version
+  pub states : List StateLine
 
--- a netlist of these parts
+-- a netlist of version one of these parts
 abbrev pub netlist_of : ℕ → ℕ → List Rail → List Cell → List Rail → List (ℕ × List ℕ) → List (ℕ × List ℕ) → PlainNetlist
 netlist_of inputs outputs input_rails cells output_rails input_names output_names = record {
   inputs = inputs;
@@ -29,11 +35,21 @@ netlist_of inputs outputs input_rails cells output_rails input_names output_name
   output_rails = output_rails;
   input_names = input_names;
   output_names = output_names;
+  version = One;
+  states = [];
 }
 
--- a netlist of these ports and no lines
+-- a netlist of version one of these ports and no lines
 abbrev pub empty_netlist : ℕ → ℕ → PlainNetlist
 empty_netlist inputs outputs = netlist_of inputs outputs [] [] [] [] []
+
+-- a netlist with another version and other state lines
+abbrev pub with_states : Version → List StateLine → PlainNetlist → PlainNetlist
+with_states version states net = record net { version = version; states = states }
+
+-- a netlist of a version, of these ports and no lines
+abbrev pub versioned : Version → ℕ → ℕ → PlainNetlist
+versioned version inputs outputs = with_states version [] (empty_netlist inputs outputs)
 
 -- the wire of a rail
 abbrev pub wire_of : Rail → ℕ

@@ -1,14 +1,15 @@
--- The nine rules of soundness, and the first refusal of a netlist that breaks one.
+-- The ten rules of soundness, and the first refusal of a netlist that breaks one.
 use Rattle.std.specs.Prelude.{◌≡◌, ◌⊎◌, ◌≤◌, ◌<◌, ℕ, Bool, not, Option, Some, None, slice_get}
 use Rattle.pulse_ids.specs.Ids.{WireId}
 use Rattle.cell_netlist.specs.declared.kinds.Role.{Role}
 use Rattle.cell_netlist.specs.declared.kinds.Role.TheVariants.{Front, Back, Const}
 use Rattle.cell_netlist.specs.declared.lines.Rail.{Rail}
+use Rattle.cell_netlist.specs.declared.lines.StateLine.{StateLine}
 use Rattle.cell_netlist.specs.declared.lines.Cell.{Cell}
 use Rattle.cell_netlist.specs.declared.lines.Cell.TheVariants.{Droc}
 use Rattle.cell_netlist.specs.declared.unsound.RailLine.TheVariants.{Input, Output}
 use Rattle.cell_netlist.specs.declared.unsound.Unsound.{Unsound}
-use Rattle.cell_netlist.specs.declared.unsound.Unsound.TheVariants.{WireUndriven, WireTwiceDriven, WireUnread, WireTwiceRead, PortRange, RailTwice, Loop, LooseDroc, WrongPreload}
+use Rattle.cell_netlist.specs.declared.unsound.Unsound.TheVariants.{WireUndriven, WireTwiceDriven, WireUnread, WireTwiceRead, PortRange, RailTwice, Loop, LooseDroc, WrongPreload, LooseState}
 use Rattle.pulse_ids.specs.Lists.{IsIn, occurrences}
 use Rattle.cell_netlist.specs.Wired.{IsWired}
 use Rattle.cell_netlist.specs.Netlists.{PlainNetlist, driven, read, outs, number_of_wires, SplittersBelow, IsDroc, Grounded}
@@ -52,7 +53,26 @@ FitsRole net (Droc Const preload feed q n) =
     (own : ℕ) × IsOn n own × (splitters : ℕ) × SplittersBelow net splitters own feed.number
 FitsRole net cell = Unit
 
--- The nine rules.
+-- a back
+abbrev pub IsBack : Cell → Type 0
+IsBack (Droc Back preload feed q n) = Unit
+IsBack cell = ⊥
+
+-- a state line names a back
+abbrev pub NamesBack : PlainNetlist → StateLine → Type 0
+NamesBack net line = (cell : Cell) × (slice_get net.cells line.cell.number ≡ Some cell) × IsBack cell
+
+-- a state line before the one of this number names the same cell
+abbrev pub IsNamedBefore : PlainNetlist → ℕ → StateLine → Type 0
+IsNamedBefore net k line =
+    (first : ℕ) × (earlier : StateLine) × (first < k) × (slice_get net.states first ≡ Some earlier) × (earlier.cell.number ≡ line.cell.number)
+
+-- Each state line's cell is a back, and no two state lines name one cell.
+pub record AreStatesRight (net : PlainNetlist) : Type 0 where
+  pub backs : (line : StateLine) → IsIn line net.states → NamesBack net line
+  pub apart : (k : ℕ) (line : StateLine) → slice_get net.states k ≡ Some line → IsNamedBefore net k line → ⊥
+
+-- The ten rules.
 pub record IsSound (net : PlainNetlist) : Type 0 where
   -- every wire has one driver and one reader, which are four rules
   pub wired : IsWired net
@@ -68,6 +88,8 @@ pub record IsSound (net : PlainNetlist) : Type 0 where
   pub roles : (cell : Cell) → IsIn cell net.cells → FitsRole net cell
   -- a back's preload is the complement of its front's
   pub preloads : (link : ℕ) (front back : Bool) → IsFrontTo net link front → IsBackFrom net link back → back ≡ not front
+  -- each state line's cell is a back, and no two name one cell
+  pub states : AreStatesRight net
 
 -- Where and how a netlist breaks a rule.
 abbrev pub Breaks : PlainNetlist → Unsound → Type 0
@@ -86,6 +108,8 @@ Breaks net (LooseDroc id) = (cell : Cell) × (slice_get net.cells id.number ≡ 
 Breaks net (WrongPreload id) =
     (cell : Cell) × (slice_get net.cells id.number ≡ Some cell) × (link : ℕ) × (back : Bool) × (front : Bool)
     × IsDrocOf cell Back back link × IsFrontTo net link front × (back ≡ not front → ⊥)
+Breaks net (LooseState k) =
+    (line : StateLine) × (slice_get net.states k ≡ Some line) × ((NamesBack net line → ⊥) ⊎ IsNamedBefore net k line)
 
 -- the place of a refusal in the order of the rules, where input rails come before output rails
 abbrev pub rule_of : Unsound → ℕ
@@ -99,6 +123,7 @@ rule_of (RailTwice id) = 7
 rule_of (Loop id) = 8
 rule_of (LooseDroc id) = 9
 rule_of (WrongPreload id) = 10
+rule_of (LooseState k) = 11
 
 -- the number that a refusal names
 abbrev pub number_in : Unsound → ℕ
@@ -112,6 +137,7 @@ number_in (RailTwice id) = id.number
 number_in (Loop id) = id.number
 number_in (LooseDroc id) = id.number
 number_in (WrongPreload id) = id.number
+number_in (LooseState k) = k
 
 -- an earlier rule, or the same rule at a lower number
 abbrev pub ComesBefore : Unsound → Unsound → Type 0

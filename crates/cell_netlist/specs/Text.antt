@@ -6,7 +6,10 @@ use Rattle.pulse_ids.specs.declared.literals.Sign.{Sign}
 use Rattle.pulse_ids.specs.declared.literals.Sign.TheVariants.{Pos, Neg}
 use Rattle.cell_netlist.specs.declared.kinds.Role.{Role}
 use Rattle.cell_netlist.specs.declared.kinds.Role.TheVariants.{Front, Back, Const}
+use Rattle.cell_netlist.specs.declared.kinds.Version.{Version}
+use Rattle.cell_netlist.specs.declared.kinds.Version.TheVariants.{One, Two}
 use Rattle.cell_netlist.specs.declared.lines.Rail.{Rail}
+use Rattle.cell_netlist.specs.declared.lines.StateLine.{StateLine}
 use Rattle.cell_netlist.specs.declared.lines.Cell.{Cell}
 use Rattle.cell_netlist.specs.declared.lines.Cell.TheVariants.{La, Fa, Split, Droc}
 use Rattle.cell_netlist.specs.Netlists.{PlainNetlist, IsNetlist}
@@ -16,6 +19,10 @@ abbrev pub line_of : List (List ℕ) → List ℕ
 line_of [] = 10 ∷ []
 line_of (word ∷ []) = word ++ 10 ∷ []
 line_of (word ∷ next ∷ words) = word ++ 32 ∷ line_of (next ∷ words)
+
+abbrev pub version_word : Version → List ℕ
+version_word One = codes "1"
+version_word Two = codes "2"
 
 abbrev pub sign_word : Sign → List ℕ
 sign_word Pos = codes "p"
@@ -49,16 +56,21 @@ cell_words (Split from left right) = codes "split" ∷ wire_word from ∷ wire_w
 cell_words (Droc role preload feed q n) =
     codes "droc" ∷ role_word role ∷ bit_word preload ∷ wire_word feed ∷ output_word q ∷ output_word n ∷ []
 
+-- `state`, latch, cell
+abbrev pub state_words : StateLine → List (List ℕ)
+state_words line = codes "state" ∷ decimal line.latch ∷ decimal line.cell.number ∷ []
+
 -- `iname` or `oname`, port, name
 abbrev pub name_words : List ℕ → ℕ × List ℕ → List (List ℕ)
 name_words side named = side ∷ decimal named.0 ∷ named.1 ∷ []
 
 -- the words of each line of a netlist
 abbrev pub netlist_words : PlainNetlist → List (List (List ℕ))
-netlist_words net = (codes "xsfq" ∷ codes "1" ∷ []) ∷ (codes "ports" ∷ decimal net.inputs ∷ decimal net.outputs ∷ []) ∷ []
+netlist_words net = (codes "xsfq" ∷ version_word net.version ∷ []) ∷ (codes "ports" ∷ decimal net.inputs ∷ decimal net.outputs ∷ []) ∷ []
     ++ map (rail_words (codes "input")) net.input_rails
     ++ map cell_words net.cells
     ++ map (rail_words (codes "output")) net.output_rails
+    ++ map state_words net.states
     ++ map (name_words (codes "iname")) net.input_names
     ++ map (name_words (codes "oname")) net.output_names
     ++ (codes "end" ∷ []) ∷ []

@@ -6,7 +6,7 @@ ghost use Rattle.cell_netlist.specs.ExampleLeanness.{LeannessIsSeen};
 ghost use Rattle.cell_netlist.specs.ExampleTexts.{TextsAreThese};
 
 /// The runs and bits of a toggle flip-flop, the runs of a half adder and of a constant; places, asked rails and
-/// upsets; a refusal by each rule; netlists that are lean or not; two texts.
+/// upsets; a refusal by each rule; netlists that are lean or not; three texts.
 pub fn examples_hold()
     ensures toggle_is_sound { ToggleIsSound }
     ensures toggle_runs { ToggleRuns }

@@ -55,6 +55,15 @@ pub enum Phase {
     Relax,
 }
 
+/// A version of netlists.
+#[derive(Clone, Copy, Debug, PartialEq, Eq, Hash)]
+pub enum Version {
+    /// A netlist without state lines.
+    One,
+    /// A netlist whose state lines name the cells that keep the latches.
+    Two,
+}
+
 /// Which rails of each output port are asked for.
 #[derive(Clone, Copy, Debug, PartialEq, Eq, Hash)]
 pub enum Ask {

@@ -4,6 +4,7 @@
 //! in excite exactly where v is 1, and in relax exactly where v is 0.
 #![tactic(auto)]
 
+mod cell_wires;
 mod equations;
 mod examples;
 mod kinds;
@@ -19,12 +20,12 @@ mod wired_nets;
 
 pub use equations::equation_runs;
 pub use examples::examples_hold;
-pub use kinds::{Ask, CellState, Gate, Held, Phase, Port, Role};
+pub use kinds::{Ask, CellState, Gate, Held, Phase, Port, Role, Version};
 pub use laws::{
     another_feed, lean_decisions, leaves_of_roots, more_lines, one_place_a_wire, one_refusal,
     places_of_wires, readers_of_wires, roots_of_wires, sound_decisions, texts_of_netlists,
 };
-pub use lines::{Cell, Driver, Rail, Reader};
+pub use lines::{Cell, Driver, Rail, Reader, StateLine};
 pub use netlists::Netlist;
 pub use sound_nets::SoundNet;
 pub use tables::{arrive, feed_bit};

@@ -14,6 +14,15 @@ pub struct Rail {
     pub wire: WireId,
 }
 
+/// A state line: it names the cell whose bit is a latch of the source.
+#[derive(Clone, Copy, Debug, PartialEq, Eq, Hash)]
+pub struct StateLine {
+    /// The latch, numbered from 0 in the source.
+    pub latch: u32,
+    /// The cell, which is a back in a sound netlist.
+    pub cell: CellId,
+}
+
 /// A cell with the wires on its ports.
 #[derive(Clone, Copy, Debug, PartialEq, Eq, Hash)]
 pub enum Cell {

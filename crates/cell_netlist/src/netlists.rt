@@ -1,19 +1,23 @@
-//! A netlist: its ports, rails, cells and the names of its ports.
+//! A netlist: its ports, rails, cells and state lines, and the names of its ports.
 
-ghost use Rattle.std.specs.Prelude.{◌≡◌, ◌<◌, ◌≤◌, ◌+◌, max, ◌++◌, ◌∷◌, [], length, OnOk, OnErr, IfOk, slice_get, option_copied};
+ghost use Rattle.std.specs.Prelude.{◌≡◌, ◌<◌, ◌≤◌, ◌+◌, max, ◌++◌, ◌∷◌, [], length, OnOk, OnErr, IfOk, slice_get, Some, option_copied};
 ghost use Rattle.pulse_ids.specs.Quantities.{greatest_of};
-ghost use Rattle.pulse_ids.specs.declared.quantities.Quantity.TheVariants.{Wires};
+ghost use Rattle.pulse_ids.specs.declared.quantities.Quantity.TheVariants.{Latches, Wires};
 ghost use Rattle.pulse_ids.specs.Names.{IsPortName};
 ghost use Rattle.cell_netlist.specs.Names.{IsAboveAll, HasRisingPorts, name_at};
-ghost use Rattle.cell_netlist.specs.Netlists.{empty_netlist, number_of_wires, most_lines, IsNetlist, HasFewLines, wire_of, cell_bound, with_feed, cells_with_feed, IsDrocUpTo, wire_bound, used};
+ghost use Rattle.cell_netlist.specs.Netlists.{empty_netlist, versioned, number_of_wires, most_lines, IsNetlist, HasFewLines, wire_of, cell_bound, cells_with_feed, IsDrocUpTo};
+ghost use Rattle.cell_netlist.specs.States.{IsAboveStates};
+ghost use Rattle.cell_netlist.specs.declared.kinds.Version.TheVariants.{Two};
 
-use crate::lines::{Cell, Rail};
+use crate::cell_wires::{bound_of, fed_by};
+use crate::kinds::Version;
+use crate::lines::{Cell, Rail, StateLine};
 use pulse_ids::{CellId, Ident, Name, NoMemory, RailId, Row, WireId};
 use std::alloc::Global;
 use std::marker::Model;
 
-/// A netlist is its numbers of input and output ports, its input rails, cells and output rails, and the
-/// names of its ports. Each list keeps the order in which lines were added.
+/// A netlist is its version, its numbers of input and output ports, its input rails, cells, output rails and state
+/// lines, and the names of its ports. Each list keeps the order in which lines were added.
 #[derive(Debug, Drop)]
 pub struct Netlist {
     inputs: u32,
@@ -23,25 +27,34 @@ pub struct Netlist {
     output_rails: Row<RailId, Rail>,
     input_names: Vec<(u32, Name)>,
     output_names: Vec<(u32, Name)>,
+    version: Version,
+    states: Vec<StateLine>,
     wires: u32,
 }
 
 impl Model for Netlist {
-    ghost use Rattle.cell_netlist.specs.Netlists.{PlainNetlist, netlist_of, IsKept};
+    ghost use Rattle.cell_netlist.specs.Netlists.{PlainNetlist, netlist_of, with_states, IsKept};
 
     ghost Value = { PlainNetlist };
 
-    ghost view = { λ net. netlist_of net.inputs net.outputs net.input_rails net.cells net.output_rails
-        net.input_names.items net.output_names.items };
+    ghost view = { λ net. with_states net.version net.states.items (netlist_of net.inputs net.outputs net.input_rails
+        net.cells net.output_rails net.input_names.items net.output_names.items) };
 
-    ghost invariant = { λ net. IsKept (netlist_of net.inputs net.outputs net.input_rails net.cells net.output_rails
-        net.input_names.items net.output_names.items) net.wires };
+    ghost invariant = { λ net. IsKept (with_states net.version net.states.items (netlist_of net.inputs net.outputs
+        net.input_rails net.cells net.output_rails net.input_names.items net.output_names.items)) net.wires };
 }
 
 impl Netlist {
-    /// A netlist of these numbers of ports with no lines. It takes no memory.
+    /// A netlist of version one with these numbers of ports and no lines. It takes no memory.
     pub fn new(alloc: Global, inputs: u32, outputs: u32) -> Netlist
         ensures { result ≡ empty_netlist inputs outputs }
+    {
+        Netlist::versioned(alloc, Version::One, inputs, outputs)
+    }
+
+    /// A netlist of this version with these numbers of ports and no lines. It takes no memory.
+    pub fn versioned(alloc: Global, version: Version, inputs: u32, outputs: u32) -> Netlist
+        ensures { result ≡ versioned version inputs outputs }
     {
         Netlist {
             inputs,
@@ -51,8 +64,17 @@ impl Netlist {
             output_rails: Row::new(alloc),
             input_names: Vec::new(alloc),
             output_names: Vec::new(alloc),
+            version,
+            states: Vec::new(alloc),
             wires: 0,
         }
+    }
+
+    /// The version.
+    pub fn version(&self) -> Version
+        ensures { result ≡ self.now.version }
+    {
+        self.version
     }
 
     /// The number of input ports.
@@ -116,6 +138,28 @@ impl Netlist {
         ensures { option_copied result ≡ name_at self.now.output_names port }
     {
         name_of(self.output_names.as_slice(), port)
+    }
+
+    /// The number of state lines.
+    pub fn states(&self) -> u32
+        ensures { result ≡ length self.now.states }
+    {
+        self.states.len() as u32
+    }
+
+    /// The state lines in order.
+    pub fn state_lines(&self) -> &[StateLine]
+        ensures { result.now ≡ self.now.states }
+    {
+        self.states.as_slice()
+    }
+
+    /// The state line of a number, which is below the number of state lines.
+    pub fn state(&self, k: u32) -> StateLine
+        requires { k < length self.now.states }
+        ensures { slice_get self.now.states k ≡ Some result }
+    {
+        self.states[k as usize]
     }
 
     /// The number of wires: one more than the greatest wire number that stands in the netlist, and 0 where none
@@ -187,6 +231,19 @@ impl Netlist {
         Ok(id)
     }
 
+    /// Adds a state line at the end. The version is two, and the latch is below 16,384 and above that of every state
+    /// line before. Where memory is refused the netlist is unchanged.
+    pub fn add_state(&mut self, line: StateLine) -> Result<(), NoMemory>
+        requires version { self.old.version ≡ Two }
+        requires limit { line.latch < greatest_of Latches }
+        requires above { IsAboveStates line.latch self.old.states }
+        ensures added { OnOk result (self.new ≡ record self.old { states = self.old.states ++ line ∷ [] }) }
+        ensures unchanged { OnErr result (self.new ≡ self.old) }
+    {
+        self.states.push(line)?;
+        Ok(())
+    }
+
     /// Names an input port. The port is in range and above every input port named before, and the name has 1 to
     /// 1,023 bytes without LF. Where memory is refused the netlist is unchanged and the name is given up.
     pub fn name_input(&mut self, port: u32, name: Name) -> Result<(), NoMemory>
@@ -211,57 +268,6 @@ impl Netlist {
     {
         self.output_names.push((port, name))?;
         Ok(())
-    }
-}
-
-// One more than the greatest wire number in a cell.
-fn bound_of(cell: Cell) -> u32
-    requires { cell_bound cell ≤ greatest_of Wires }
-    ensures { result ≡ cell_bound cell }
-{
-    match cell {
-        Cell::La { a, b, out } | Cell::Fa { a, b, out } => {
-            (a.number().max(b.number())).max(out.number()) + 1
-        }
-        Cell::Split { from, left, right } => {
-            (from.number().max(left.number())).max(right.number()) + 1
-        }
-        Cell::Droc { feed, q, n, .. } => (feed.number() + 1)
-            .max(bound_of_output(q))
-            .max(bound_of_output(n)),
-    }
-}
-
-// One more than the wire number of an output, and 0 for an unused one.
-fn bound_of_output(output: Option<WireId>) -> u32
-    requires { wire_bound (used output) ≤ greatest_of Wires }
-    ensures { result ≡ wire_bound (used output) }
-{
-    match output {
-        Some(wire) => wire.number() + 1,
-        None => 0,
-    }
-}
-
-// A cell with another feed, where it is a DROC.
-fn fed_by(wire: WireId, cell: Cell) -> Cell
-    ensures { result ≡ with_feed wire cell }
-{
-    match cell {
-        Cell::Droc {
-            role,
-            preload,
-            q,
-            n,
-            ..
-        } => Cell::Droc {
-            role,
-            preload,
-            feed: wire,
-            q,
-            n,
-        },
-        other => other,
     }
 }
 

@@ -30,4 +30,6 @@ pub enum Unsound {
     LooseDroc(CellId),
     /// The back's preload is not the complement of its front's.
     WrongPreload(CellId),
+    /// The state line of this number, counted from 0, names no back, or a cell that an earlier one names.
+    LooseState(u32),
 }

@@ -2,27 +2,30 @@
 use Rattle.std.proofs.Common.{◌≡◌, ℕ, cond, Bool, true, false, List, [], ◌∷◌, ◌++◌, codes, decimal, Option, Some, None, refl, sym, ap, ◌∙◌}
 use Rattle.std.specs.Prelude.{option_map, option_and_then, unwrap_or}
 use Rattle.std.specs.Str.{bytes_eq}
-use Rattle.pulse_ids.specs.Ids.{WireId}
+use Rattle.pulse_ids.specs.Ids.{WireId, numbered}
+use Rattle.cell_netlist.specs.declared.kinds.Version.TheVariants.{One, Two}
 use Rattle.cell_netlist.specs.declared.lines.Rail.{Rail}
+use Rattle.cell_netlist.specs.declared.lines.StateLine.{StateLine}
 use Rattle.cell_netlist.specs.declared.lines.Cell.{Cell}
 use Rattle.cell_netlist.specs.declared.lines.Cell.TheVariants.{La, Fa, Split, Droc}
-use Rattle.cell_netlist.specs.Text.{sign_word, role_word, bit_word, wire_word, output_word, rail_words, cell_words, name_words}
+use Rattle.cell_netlist.specs.Text.{sign_word, role_word, bit_word, wire_word, output_word, version_word, rail_words, cell_words, state_words, name_words}
 use Rattle.word_scan.specs.Words.{parted}
 use Rattle.word_scan.specs.Decimals.{plain_decimal_of}
 use Rattle.netlist_reader.specs.declared.statements.Statement.{Statement}
-use Rattle.netlist_reader.specs.declared.statements.Statement.TheVariants.{Version, Ports, Input, OneCell, Output, InputName, OutputName, End}
+use Rattle.netlist_reader.specs.declared.statements.Statement.TheVariants.{Version, Ports, Input, OneCell, Output, State, InputName, OutputName, End}
 use Rattle.netlist_reader.specs.Words.{after_space, name_in}
-use Rattle.netlist_reader.specs.Statements.{ports_in, rail_in, named_in, three_in, droc_in, cell_in, statement_by, statement_in}
+use Rattle.netlist_reader.specs.Statements.{ports_in, rail_in, state_in, named_in, three_in, droc_in, cell_in, statement_by, statement_in}
 use Rattle.netlist_reader.proofs.FoundWords.{some_same, same_bytes, word_found, meaning_found, number_found, sign_found, role_found, bit_found, wire_found, output_found}
 use Rattle.netlist_reader.proofs.WrittenLines.{spaced}
 
 -- the words of what a line says
 abbrev pub words_by : List ℕ → Statement → List (List ℕ)
-words_by line Version = codes "xsfq" ∷ codes "1" ∷ []
+words_by line (Version version) = codes "xsfq" ∷ version_word version ∷ []
 words_by line (Ports inputs outputs) = codes "ports" ∷ decimal inputs ∷ decimal outputs ∷ []
 words_by line (Input rail) = rail_words (codes "input") rail
 words_by line (OneCell cell) = cell_words cell
 words_by line (Output rail) = rail_words (codes "output") rail
+words_by line (State state) = state_words state
 words_by line (InputName port) = name_words (codes "iname") (port, name_in line)
 words_by line (OutputName port) = name_words (codes "oname") (port, name_in line)
 words_by line End = codes "end" ∷ []
@@ -53,6 +56,16 @@ rail_found line rail h =
     a.is ∙ joined a.word (decimal p.0) a.rest _ (number_found a.word p.0 p.1)
     (b.is ∙ joined b.word (sign_word s.0) b.rest (wire_word w.0) (sign_found b.word s.0 s.1) (wire_found b.rest w.0 w.1))
     ∙ ap (λ (r : Rail). spaced (decimal r.port ∷ sign_word r.sign ∷ wire_word r.wire ∷ [])) same
+
+state_found : (line : List ℕ) (state : StateLine) → state_in line ≡ Some state → line ≡ spaced (decimal state.latch ∷ decimal state.cell.number ∷ [])
+state_found line state h =
+    let a = word_found line _ state h in
+    let l = meaning_found (plain_decimal_of a.word) _ state a.said in
+    let c = meaning_found (plain_decimal_of a.rest) _ state l.2 in
+    let made : StateLine = record { latch = l.0; cell = numbered c.0 } in
+    let same : made ≡ state = some_same made state c.2 in
+    a.is ∙ joined a.word (decimal l.0) a.rest (decimal c.0) (number_found a.word l.0 l.1) (number_found a.rest c.0 c.1)
+    ∙ ap (λ (s : StateLine). spaced (decimal s.latch ∷ decimal s.cell.number ∷ [])) same
 
 three_found : (line : List ℕ) (wires : WireId × WireId × WireId) → three_in line ≡ Some wires → line ≡ spaced (wire_word wires.0 ∷ wire_word wires.1 ∷ wire_word wires.2 ∷ [])
 three_found line wires h =
@@ -151,6 +164,13 @@ module _ (line word rest : List ℕ) (is : line ≡ word ++ 32 ∷ rest) (parts 
       let same : Output rail ≡ statement = cc in
       headed (codes "output") w ∙ ap (λ (l : List ℕ). codes "output" ++ 32 ∷ l) (rail_found rest rail e) ∙ ap (λ (s : Statement). spaced (words_by line s)) same
 
+  state_line : (state : Option StateLine) (statement : Statement) → state_in rest ≡ state → option_map State state ≡ Some statement → bytes_eq word (codes "state") ≡ true
+      → line ≡ spaced (words_by line statement)
+  state_line None statement e h w = absurd cc
+  state_line (Some state) statement e h w =
+      let same : State state ≡ statement = cc in
+      headed (codes "state") w ∙ ap (λ (l : List ℕ). codes "state" ++ 32 ∷ l) (state_found rest state e) ∙ ap (λ (s : Statement). spaced (words_by line s)) same
+
   input_name_line : (port : Option ℕ) (statement : Statement) → named_in rest ≡ port → option_map InputName port ≡ Some statement → bytes_eq word (codes "iname") ≡ true
       → line ≡ spaced (words_by line statement)
   input_name_line None statement e h w = absurd cc
@@ -171,29 +191,35 @@ module _ (line word rest : List ℕ) (is : line ≡ word ++ 32 ∷ rest) (parts 
   cell_line None statement e h = absurd cc
   cell_line (Some cell) statement e h = let same : OneCell cell ≡ statement = cc in is ∙ cell_found word rest cell e ∙ ap (λ (s : Statement). spaced (words_by line s)) same
 
-  parts_by : (statement : Statement) (p i o n m : Bool) → bytes_eq word (codes "ports") ≡ p → bytes_eq word (codes "input") ≡ i → bytes_eq word (codes "output") ≡ o → bytes_eq word (codes "iname") ≡ n
+  parts_by : (statement : Statement) (p i o s n m : Bool) → bytes_eq word (codes "ports") ≡ p → bytes_eq word (codes "input") ≡ i → bytes_eq word (codes "output") ≡ o
+      → bytes_eq word (codes "state") ≡ s → bytes_eq word (codes "iname") ≡ n
       → bytes_eq word (codes "oname") ≡ m
       → cond p (ports_in rest) (cond i (option_map Input (rail_in rest))
-      (cond o (option_map Output (rail_in rest)) (cond n (option_map InputName (named_in rest)) (cond m (option_map OutputName (named_in rest))
-      (option_map OneCell (cell_in word rest)))))) ≡ Some statement
+      (cond o (option_map Output (rail_in rest)) (cond s (option_map State (state_in rest))
+      (cond n (option_map InputName (named_in rest)) (cond m (option_map OutputName (named_in rest))
+      (option_map OneCell (cell_in word rest))))))) ≡ Some statement
       → line ≡ spaced (words_by line statement)
-  parts_by statement true i o n m ep ei eo en em h = ports_line statement (ports_found rest statement h) ep
-  parts_by statement false true o n m ep ei eo en em h = input_line (rail_in rest) statement refl h ei
-  parts_by statement false false true n m ep ei eo en em h = output_line (rail_in rest) statement refl h eo
-  parts_by statement false false false true m ep ei eo en em h = input_name_line (named_in rest) statement refl h en
-  parts_by statement false false false false true ep ei eo en em h = output_name_line (named_in rest) statement refl h em
-  parts_by statement false false false false false ep ei eo en em h = cell_line (cell_in word rest) statement refl h
+  parts_by statement true i o s n m ep ei eo es en em h = ports_line statement (ports_found rest statement h) ep
+  parts_by statement false true o s n m ep ei eo es en em h = input_line (rail_in rest) statement refl h ei
+  parts_by statement false false true s n m ep ei eo es en em h = output_line (rail_in rest) statement refl h eo
+  parts_by statement false false false true n m ep ei eo es en em h = state_line (state_in rest) statement refl h es
+  parts_by statement false false false false true m ep ei eo es en em h = input_name_line (named_in rest) statement refl h en
+  parts_by statement false false false false false true ep ei eo es en em h = output_name_line (named_in rest) statement refl h em
+  parts_by statement false false false false false false ep ei eo es en em h = cell_line (cell_in word rest) statement refl h
 
   parts_found : (statement : Statement) → statement_by word rest ≡ Some statement → line ≡ spaced (words_by line statement)
   parts_found statement h =
-      parts_by statement (bytes_eq word (codes "ports")) (bytes_eq word (codes "input")) (bytes_eq word (codes "output")) (bytes_eq word (codes "iname"))
-      (bytes_eq word (codes "oname")) refl refl refl refl refl h
+      parts_by statement (bytes_eq word (codes "ports")) (bytes_eq word (codes "input")) (bytes_eq word (codes "output")) (bytes_eq word (codes "state"))
+      (bytes_eq word (codes "iname"))
+      (bytes_eq word (codes "oname")) refl refl refl refl refl refl h
 
-line_by : (line : List ℕ) (statement : Statement) (version end : Bool) → bytes_eq line (codes "xsfq 1") ≡ version → bytes_eq line (codes "end") ≡ end
-    → cond version (Some Version) (cond end (Some End) (option_and_then (λ parts. statement_by parts.0 parts.1) (parted 32 line))) ≡ Some statement → line ≡ spaced (words_by line statement)
-line_by line statement true end e f h = let same : Version ≡ statement = cc in same_bytes line (codes "xsfq 1") e ∙ ap (λ (s : Statement). spaced (words_by line s)) same
-line_by line statement false true e f h = let same : End ≡ statement = cc in same_bytes line (codes "end") f ∙ ap (λ (s : Statement). spaced (words_by line s)) same
-line_by line statement false false e f h = let a = word_found line statement_by statement h in parts_found line a.word a.rest a.is a.parts statement a.said
+line_by : (line : List ℕ) (statement : Statement) (one two end : Bool) → bytes_eq line (codes "xsfq 1") ≡ one → bytes_eq line (codes "xsfq 2") ≡ two → bytes_eq line (codes "end") ≡ end
+    → cond one (Some (Version One)) (cond two (Some (Version Two)) (cond end (Some End) (option_and_then (λ parts. statement_by parts.0 parts.1) (parted 32 line)))) ≡ Some statement
+    → line ≡ spaced (words_by line statement)
+line_by line statement true two end d e f h = let same : Version One ≡ statement = cc in same_bytes line (codes "xsfq 1") d ∙ ap (λ (s : Statement). spaced (words_by line s)) same
+line_by line statement false true end d e f h = let same : Version Two ≡ statement = cc in same_bytes line (codes "xsfq 2") e ∙ ap (λ (s : Statement). spaced (words_by line s)) same
+line_by line statement false false true d e f h = let same : End ≡ statement = cc in same_bytes line (codes "end") f ∙ ap (λ (s : Statement). spaced (words_by line s)) same
+line_by line statement false false false d e f h = let a = word_found line statement_by statement h in parts_found line a.word a.rest a.is a.parts statement a.said
 
 pub line_found : (line : List ℕ) (statement : Statement) → statement_in line ≡ Some statement → line ≡ spaced (words_by line statement)
-line_found line statement h = line_by line statement (bytes_eq line (codes "xsfq 1")) (bytes_eq line (codes "end")) refl refl h
+line_found line statement h = line_by line statement (bytes_eq line (codes "xsfq 1")) (bytes_eq line (codes "xsfq 2")) (bytes_eq line (codes "end")) refl refl refl h

@@ -3,13 +3,17 @@ use Rattle.std.proofs.Common.{◌≡◌, ◌<◌, ◌≤◌, ℕ, leb, true, Opt
 use Rattle.std.specs.List.{flat_map, list_all}
 use Rattle.std.proofs.lemmas.Bool.{leb-true}
 use Rattle.std.proofs.lemmas.List.{map-append}
-use Rattle.cell_netlist.specs.Netlists.{PlainNetlist, empty_netlist}
-use Rattle.cell_netlist.specs.Text.{rail_words, cell_words, name_words, netlist_words}
+use Rattle.cell_netlist.specs.declared.kinds.Version as kinds
+use Rattle.cell_netlist.specs.Netlists.{PlainNetlist, versioned}
+use Rattle.cell_netlist.specs.Text.{rail_words, cell_words, state_words, name_words, netlist_words}
+use Rattle.cell_netlist.specs.declared.lines.Rail.{Rail}
+use Rattle.cell_netlist.specs.declared.lines.Cell.{Cell}
+use Rattle.cell_netlist.specs.declared.lines.StateLine.{StateLine}
 use Rattle.netlist_reader.specs.declared.statements.Statement.{Statement}
 use Rattle.netlist_reader.specs.declared.statements.Statement.TheVariants as statements
 use Rattle.netlist_reader.specs.Words.{name_in}
 use Rattle.netlist_reader.specs.Statements.{statement_in}
-use Rattle.netlist_reader.specs.Places.{rank, section_of, rank_by, cell_by, output_by, input_name_by, output_name_by, netlist_in, follows_lines}
+use Rattle.netlist_reader.specs.Places.{rank, section_of, rank_by, cell_by, output_by, state_by, input_name_by, output_name_by, netlist_in, follows_lines}
 use Rattle.netlist_reader.specs.Building.{with_statement}
 use Rattle.netlist_reader.proofs.Bools.{and_parts}
 use Rattle.netlist_reader.proofs.Steps.{first_is, second_is, behind_head, lists_next}
@@ -24,44 +28,60 @@ module _ (n : ℕ) where
 
   no_cell : (said : Option Statement) → rank_by said ≤ n → n < 3 → cell_by said ≡ []
   no_cell None le lt = refl
-  no_cell (Some statements.Version) le lt = refl
+  no_cell (Some (statements.Version version)) le lt = refl
   no_cell (Some (statements.Ports inputs outputs)) le lt = refl
   no_cell (Some (statements.Input rail)) le lt = refl
   no_cell (Some (statements.OneCell cell)) le lt = absurd (omega arith)
   no_cell (Some (statements.Output rail)) le lt = refl
+  no_cell (Some (statements.State state)) le lt = refl
   no_cell (Some (statements.InputName port)) le lt = refl
   no_cell (Some (statements.OutputName port)) le lt = refl
   no_cell (Some statements.End) le lt = refl
 
   no_output : (said : Option Statement) → rank_by said ≤ n → n < 4 → output_by said ≡ []
   no_output None le lt = refl
-  no_output (Some statements.Version) le lt = refl
+  no_output (Some (statements.Version version)) le lt = refl
   no_output (Some (statements.Ports inputs outputs)) le lt = refl
   no_output (Some (statements.Input rail)) le lt = refl
   no_output (Some (statements.OneCell cell)) le lt = refl
   no_output (Some (statements.Output rail)) le lt = absurd (omega arith)
+  no_output (Some (statements.State state)) le lt = refl
   no_output (Some (statements.InputName port)) le lt = refl
   no_output (Some (statements.OutputName port)) le lt = refl
   no_output (Some statements.End) le lt = refl
 
-  no_input_name : (line : List ℕ) (said : Option Statement) → rank_by said ≤ n → n < 5 → input_name_by line said ≡ []
+  no_state : (said : Option Statement) → rank_by said ≤ n → n < 5 → state_by said ≡ []
+  no_state None le lt = refl
+  no_state (Some (statements.Version version)) le lt = refl
+  no_state (Some (statements.Ports inputs outputs)) le lt = refl
+  no_state (Some (statements.Input rail)) le lt = refl
+  no_state (Some (statements.OneCell cell)) le lt = refl
+  no_state (Some (statements.Output rail)) le lt = refl
+  no_state (Some (statements.State state)) le lt = absurd (omega arith)
+  no_state (Some (statements.InputName port)) le lt = refl
+  no_state (Some (statements.OutputName port)) le lt = refl
+  no_state (Some statements.End) le lt = refl
+
+  no_input_name : (line : List ℕ) (said : Option Statement) → rank_by said ≤ n → n < 6 → input_name_by line said ≡ []
   no_input_name line None le lt = refl
-  no_input_name line (Some statements.Version) le lt = refl
+  no_input_name line (Some (statements.Version version)) le lt = refl
   no_input_name line (Some (statements.Ports inputs outputs)) le lt = refl
   no_input_name line (Some (statements.Input rail)) le lt = refl
   no_input_name line (Some (statements.OneCell cell)) le lt = refl
   no_input_name line (Some (statements.Output rail)) le lt = refl
+  no_input_name line (Some (statements.State state)) le lt = refl
   no_input_name line (Some (statements.InputName port)) le lt = absurd (omega arith)
   no_input_name line (Some (statements.OutputName port)) le lt = refl
   no_input_name line (Some statements.End) le lt = refl
 
-  no_output_name : (line : List ℕ) (said : Option Statement) → rank_by said ≤ n → n < 6 → output_name_by line said ≡ []
+  no_output_name : (line : List ℕ) (said : Option Statement) → rank_by said ≤ n → n < 7 → output_name_by line said ≡ []
   no_output_name line None le lt = refl
-  no_output_name line (Some statements.Version) le lt = refl
+  no_output_name line (Some (statements.Version version)) le lt = refl
   no_output_name line (Some (statements.Ports inputs outputs)) le lt = refl
   no_output_name line (Some (statements.Input rail)) le lt = refl
   no_output_name line (Some (statements.OneCell cell)) le lt = refl
   no_output_name line (Some (statements.Output rail)) le lt = refl
+  no_output_name line (Some (statements.State state)) le lt = refl
   no_output_name line (Some (statements.InputName port)) le lt = refl
   no_output_name line (Some (statements.OutputName port)) le lt = absurd (omega arith)
   no_output_name line (Some statements.End) le lt = refl
@@ -72,112 +92,149 @@ module _ (n : ℕ) where
       let parts = and_parts (leb (rank_by (statement_in line)) n) (list_all (λ line. leb (rank_by (statement_in line)) n) lines) h in
       rw (each line (leb-true _ _ parts.0), none_of f each lines parts.1) refl
 
--- one more item behind five lists, where the later ones are empty
-abbrev five : {X : Type 0} → List X → List X → List X → List X → List X → List X → List X
-five h a b c d e = ((((h ++ a) ++ b) ++ c) ++ d) ++ e
+-- one more item behind six lists, where the later ones are empty
+abbrev six : {X : Type 0} → List X → List X → List X → List X → List X → List X → List X → List X
+six h a b c s d e = (((((h ++ a) ++ b) ++ c) ++ s) ++ d) ++ e
 
-behind_a : {X : Type 0} (h a b c d e : List X) (x : X) → b ≡ [] → c ≡ [] → d ≡ [] → e ≡ [] → five h (a ++ x ∷ []) b c d e ≡ five h a b c d e ++ x ∷ []
-behind_a h a b c d e x p q r s = rw (p, q, r, s) (simp (append-nil, append_assoc))
+behind_a : {X : Type 0} (h a b c s d e : List X) (x : X) → b ≡ [] → c ≡ [] → s ≡ [] → d ≡ [] → e ≡ [] → six h (a ++ x ∷ []) b c s d e ≡ six h a b c s d e ++ x ∷ []
+behind_a h a b c s d e x p q t u v = rw (p, q, t, u, v) (simp (append-nil, append_assoc))
 
-behind_b : {X : Type 0} (h a b c d e : List X) (x : X) → c ≡ [] → d ≡ [] → e ≡ [] → five h a (b ++ x ∷ []) c d e ≡ five h a b c d e ++ x ∷ []
-behind_b h a b c d e x q r s = rw (q, r, s) (simp (append-nil, append_assoc))
+behind_b : {X : Type 0} (h a b c s d e : List X) (x : X) → c ≡ [] → s ≡ [] → d ≡ [] → e ≡ [] → six h a (b ++ x ∷ []) c s d e ≡ six h a b c s d e ++ x ∷ []
+behind_b h a b c s d e x q t u v = rw (q, t, u, v) (simp (append-nil, append_assoc))
 
-behind_c : {X : Type 0} (h a b c d e : List X) (x : X) → d ≡ [] → e ≡ [] → five h a b (c ++ x ∷ []) d e ≡ five h a b c d e ++ x ∷ []
-behind_c h a b c d e x r s = rw (r, s) (simp (append-nil, append_assoc))
+behind_c : {X : Type 0} (h a b c s d e : List X) (x : X) → s ≡ [] → d ≡ [] → e ≡ [] → six h a b (c ++ x ∷ []) s d e ≡ six h a b c s d e ++ x ∷ []
+behind_c h a b c s d e x t u v = rw (t, u, v) (simp (append-nil, append_assoc))
 
-behind_d : {X : Type 0} (h a b c d e : List X) (x : X) → e ≡ [] → five h a b c (d ++ x ∷ []) e ≡ five h a b c d e ++ x ∷ []
-behind_d h a b c d e x s = rw s (simp (append-nil, append_assoc))
+behind_s : {X : Type 0} (h a b c s d e : List X) (x : X) → d ≡ [] → e ≡ [] → six h a b c (s ++ x ∷ []) d e ≡ six h a b c s d e ++ x ∷ []
+behind_s h a b c s d e x u v = rw (u, v) (simp (append-nil, append_assoc))
 
-behind_e : {X : Type 0} (h a b c d e : List X) (x : X) → five h a b c d (e ++ x ∷ []) ≡ five h a b c d e ++ x ∷ []
-behind_e h a b c d e x = sym (append_assoc ((((h ++ a) ++ b) ++ c) ++ d) e (x ∷ []))
+behind_d : {X : Type 0} (h a b c s d e : List X) (x : X) → e ≡ [] → six h a b c s (d ++ x ∷ []) e ≡ six h a b c s d e ++ x ∷ []
+behind_d h a b c s d e x v = rw v (simp (append-nil, append_assoc))
+
+behind_e : {X : Type 0} (h a b c s d e : List X) (x : X) → six h a b c s d (e ++ x ∷ []) ≡ six h a b c s d e ++ x ∷ []
+behind_e h a b c s d e x = sym (append_assoc (((((h ++ a) ++ b) ++ c) ++ s) ++ d) e (x ∷ []))
 
 -- what a netlist lacks behind a section
 record Lacks (n : ℕ) (net : PlainNetlist) : Type 0 where
   cells : n < 3 → net.cells ≡ []
   outputs : n < 4 → net.output_rails ≡ []
-  input_names : n < 5 → net.input_names ≡ []
-  output_names : n < 6 → net.output_names ≡ []
+  states : n < 5 → net.states ≡ []
+  input_names : n < 6 → net.input_names ≡ []
+  output_names : n < 7 → net.output_names ≡ []
+
+-- the words of the lines of each section
+module _ (net : PlainNetlist) where
+  abbrev in_rails : List (List (List ℕ))
+  in_rails = map (rail_words (codes "input")) net.input_rails
+
+  abbrev in_cells : List (List (List ℕ))
+  in_cells = map cell_words net.cells
+
+  abbrev in_outputs : List (List (List ℕ))
+  in_outputs = map (rail_words (codes "output")) net.output_rails
+
+  abbrev in_states : List (List (List ℕ))
+  in_states = map state_words net.states
+
+  abbrev in_input_names : List (List (List ℕ))
+  in_input_names = map (name_words (codes "iname")) net.input_names
+
+  abbrev in_output_names : List (List (List ℕ))
+  in_output_names = map (name_words (codes "oname")) net.output_names
 
 -- the lines of a netlist with what a statement adds
-grown : (line : List ℕ) (statement : Statement) (net : PlainNetlist) → 2 ≤ rank (section_of statement) → rank (section_of statement) < 7 → Lacks (rank (section_of statement)) net
-    → all_lines (with_statement line statement net) ≡ all_lines net ++ words_by line statement ∷ []
-grown line statements.Version net low high lacks = absurd (omega arith)
-grown line (statements.Ports inputs outputs) net low high lacks = absurd (omega arith)
-grown line (statements.Input rail) net low high lacks =
-    ap (λ (l : List (List (List ℕ))). five (head_lines net) l (map cell_words net.cells) (map (rail_words (codes "output")) net.output_rails) (map (name_words (codes "iname")) net.input_names)
-    (map (name_words (codes "oname")) net.output_names))
-    (map-append (rail_words (codes "input")) net.input_rails (rail ∷ []))
-    ∙ behind_a (head_lines net) (map (rail_words (codes "input")) net.input_rails) (map cell_words net.cells) (map (rail_words (codes "output")) net.output_rails)
-    (map (name_words (codes "iname")) net.input_names)
-    (map (name_words (codes "oname")) net.output_names) (rail_words (codes "input") rail)
-    (ap (map cell_words) (lacks.cells (omega arith))) (ap (map (rail_words (codes "output"))) (lacks.outputs (omega arith)))
-    (ap (map (name_words (codes "iname"))) (lacks.input_names (omega arith))) (ap (map (name_words (codes "oname"))) (lacks.output_names (omega arith)))
-grown line (statements.OneCell cell) net low high lacks =
-    ap (λ (l : List (List (List ℕ))). five (head_lines net) (map (rail_words (codes "input")) net.input_rails) l (map (rail_words (codes "output")) net.output_rails)
-    (map (name_words (codes "iname")) net.input_names)
-    (map (name_words (codes "oname")) net.output_names))
-    (map-append cell_words net.cells (cell ∷ []))
-    ∙ behind_b (head_lines net) (map (rail_words (codes "input")) net.input_rails) (map cell_words net.cells) (map (rail_words (codes "output")) net.output_rails)
-    (map (name_words (codes "iname")) net.input_names)
-    (map (name_words (codes "oname")) net.output_names) (cell_words cell)
-    (ap (map (rail_words (codes "output"))) (lacks.outputs (omega arith)))
-    (ap (map (name_words (codes "iname"))) (lacks.input_names (omega arith))) (ap (map (name_words (codes "oname"))) (lacks.output_names (omega arith)))
-grown line (statements.Output rail) net low high lacks =
-    ap (λ (l : List (List (List ℕ))). five (head_lines net) (map (rail_words (codes "input")) net.input_rails) (map cell_words net.cells) l (map (name_words (codes "iname")) net.input_names)
-    (map (name_words (codes "oname")) net.output_names))
-    (map-append (rail_words (codes "output")) net.output_rails (rail ∷ []))
-    ∙ behind_c (head_lines net) (map (rail_words (codes "input")) net.input_rails) (map cell_words net.cells) (map (rail_words (codes "output")) net.output_rails)
-    (map (name_words (codes "iname")) net.input_names)
-    (map (name_words (codes "oname")) net.output_names) (rail_words (codes "output") rail)
-    (ap (map (name_words (codes "iname"))) (lacks.input_names (omega arith))) (ap (map (name_words (codes "oname"))) (lacks.output_names (omega arith)))
-grown line (statements.InputName port) net low high lacks =
-    ap (λ (l : List (List (List ℕ))). five (head_lines net) (map (rail_words (codes "input")) net.input_rails) (map cell_words net.cells) (map (rail_words (codes "output")) net.output_rails) l
-    (map (name_words (codes "oname")) net.output_names))
-    (map-append (name_words (codes "iname")) net.input_names ((port, name_in line) ∷ []))
-    ∙ behind_d (head_lines net) (map (rail_words (codes "input")) net.input_rails) (map cell_words net.cells) (map (rail_words (codes "output")) net.output_rails)
-    (map (name_words (codes "iname")) net.input_names)
-    (map (name_words (codes "oname")) net.output_names) (name_words (codes "iname") (port, name_in line))
-    (ap (map (name_words (codes "oname"))) (lacks.output_names (omega arith)))
-grown line (statements.OutputName port) net low high lacks =
-    ap (λ (l : List (List (List ℕ))). five (head_lines net) (map (rail_words (codes "input")) net.input_rails) (map cell_words net.cells) (map (rail_words (codes "output")) net.output_rails)
-    (map (name_words (codes "iname")) net.input_names) l)
-    (map-append (name_words (codes "oname")) net.output_names ((port, name_in line) ∷ []))
-    ∙ behind_e (head_lines net) (map (rail_words (codes "input")) net.input_rails) (map cell_words net.cells) (map (rail_words (codes "output")) net.output_rails)
-    (map (name_words (codes "iname")) net.input_names)
-    (map (name_words (codes "oname")) net.output_names) (name_words (codes "oname") (port, name_in line))
-grown line statements.End net low high lacks = absurd (omega arith)
+module _ (line : List ℕ) (net : PlainNetlist) where
+  abbrev Grows : Statement → Type 0
+  Grows statement = all_lines (with_statement line statement net) ≡ all_lines net ++ words_by line statement ∷ []
+
+  grown_input : (rail : Rail) → Lacks 2 net → Grows (statements.Input rail)
+  grown_input rail lacks =
+      ap (λ (l : List (List (List ℕ))). six (head_lines net) l (in_cells net) (in_outputs net) (in_states net) (in_input_names net) (in_output_names net))
+      (map-append (rail_words (codes "input")) net.input_rails (rail ∷ []))
+      ∙ behind_a (head_lines net) (in_rails net) (in_cells net) (in_outputs net) (in_states net) (in_input_names net) (in_output_names net) (rail_words (codes "input") rail)
+      (ap (map cell_words) (lacks.cells (omega arith))) (ap (map (rail_words (codes "output"))) (lacks.outputs (omega arith))) (ap (map state_words) (lacks.states (omega arith)))
+      (ap (map (name_words (codes "iname"))) (lacks.input_names (omega arith))) (ap (map (name_words (codes "oname"))) (lacks.output_names (omega arith)))
+
+  grown_cell : (cell : Cell) → Lacks 3 net → Grows (statements.OneCell cell)
+  grown_cell cell lacks =
+      ap (λ (l : List (List (List ℕ))). six (head_lines net) (in_rails net) l (in_outputs net) (in_states net) (in_input_names net) (in_output_names net)) (map-append cell_words net.cells (cell ∷ []))
+      ∙ behind_b (head_lines net) (in_rails net) (in_cells net) (in_outputs net) (in_states net) (in_input_names net) (in_output_names net) (cell_words cell)
+      (ap (map (rail_words (codes "output"))) (lacks.outputs (omega arith))) (ap (map state_words) (lacks.states (omega arith)))
+      (ap (map (name_words (codes "iname"))) (lacks.input_names (omega arith))) (ap (map (name_words (codes "oname"))) (lacks.output_names (omega arith)))
+
+  grown_output : (rail : Rail) → Lacks 4 net → Grows (statements.Output rail)
+  grown_output rail lacks =
+      ap (λ (l : List (List (List ℕ))). six (head_lines net) (in_rails net) (in_cells net) l (in_states net) (in_input_names net) (in_output_names net))
+      (map-append (rail_words (codes "output")) net.output_rails (rail ∷ []))
+      ∙ behind_c (head_lines net) (in_rails net) (in_cells net) (in_outputs net) (in_states net) (in_input_names net) (in_output_names net) (rail_words (codes "output") rail)
+      (ap (map state_words) (lacks.states (omega arith)))
+      (ap (map (name_words (codes "iname"))) (lacks.input_names (omega arith))) (ap (map (name_words (codes "oname"))) (lacks.output_names (omega arith)))
+
+  grown_state : (state : StateLine) → Lacks 5 net → Grows (statements.State state)
+  grown_state state lacks =
+      ap (λ (l : List (List (List ℕ))). six (head_lines net) (in_rails net) (in_cells net) (in_outputs net) l (in_input_names net) (in_output_names net)) (map-append state_words net.states (state ∷ []))
+      ∙ behind_s (head_lines net) (in_rails net) (in_cells net) (in_outputs net) (in_states net) (in_input_names net) (in_output_names net) (state_words state)
+      (ap (map (name_words (codes "iname"))) (lacks.input_names (omega arith))) (ap (map (name_words (codes "oname"))) (lacks.output_names (omega arith)))
+
+  grown_input_name : (port : ℕ) → Lacks 6 net → Grows (statements.InputName port)
+  grown_input_name port lacks =
+      ap (λ (l : List (List (List ℕ))). six (head_lines net) (in_rails net) (in_cells net) (in_outputs net) (in_states net) l (in_output_names net))
+      (map-append (name_words (codes "iname")) net.input_names ((port, name_in line) ∷ []))
+      ∙ behind_d (head_lines net) (in_rails net) (in_cells net) (in_outputs net) (in_states net) (in_input_names net) (in_output_names net) (name_words (codes "iname") (port, name_in line))
+      (ap (map (name_words (codes "oname"))) (lacks.output_names (omega arith)))
+
+  grown_output_name : (port : ℕ) → Grows (statements.OutputName port)
+  grown_output_name port =
+      ap (λ (l : List (List (List ℕ))). six (head_lines net) (in_rails net) (in_cells net) (in_outputs net) (in_states net) (in_input_names net) l)
+      (map-append (name_words (codes "oname")) net.output_names ((port, name_in line) ∷ []))
+      ∙ behind_e (head_lines net) (in_rails net) (in_cells net) (in_outputs net) (in_states net) (in_input_names net) (in_output_names net) (name_words (codes "oname") (port, name_in line))
+
+  grown : (statement : Statement) → 2 ≤ rank (section_of statement) → rank (section_of statement) < 8 → Lacks (rank (section_of statement)) net → Grows statement
+  grown (statements.Version version) low high lacks = absurd (omega arith)
+  grown (statements.Ports inputs outputs) low high lacks = absurd (omega arith)
+  grown (statements.Input rail) low high lacks = grown_input rail lacks
+  grown (statements.OneCell cell) low high lacks = grown_cell cell lacks
+  grown (statements.Output rail) low high lacks = grown_output rail lacks
+  grown (statements.State state) low high lacks = grown_state state lacks
+  grown (statements.InputName port) low high lacks = grown_input_name port lacks
+  grown (statements.OutputName port) low high lacks = grown_output_name port
+  grown statements.End low high lacks = absurd (omega arith)
 
 -- lines that are those of the netlist that they tell
+abbrev IsVersion : List ℕ → Type 0
+IsVersion line = (version : kinds.Version) × (statement_in line ≡ Some (statements.Version version))
+
 abbrev pub AreItsLines : List (List ℕ) → Type 0
 AreItsLines [] = Unit
-AreItsLines (version ∷ []) = statement_in version ≡ Some statements.Version
-AreItsLines (version ∷ ports ∷ lines) = (statement_in version ≡ Some statements.Version)
+AreItsLines (version ∷ []) = IsVersion version
+AreItsLines (version ∷ ports ∷ lines) = IsVersion version
     × ((inputs : ℕ) × (outputs : ℕ) × (statement_in ports ≡ Some (statements.Ports inputs outputs)))
     × (version ∷ ports ∷ lines ≡ map spaced (all_lines (netlist_in (version ∷ ports ∷ lines))))
 
 module _ (line : List ℕ) (statement : Statement) (says : statement_in line ≡ Some statement) where
-  head_is : (version : List ℕ) → statement_in version ≡ Some statements.Version → (inputs outputs : ℕ) → statement ≡ statements.Ports inputs outputs
-      → version ∷ line ∷ [] ≡ map spaced (all_lines (netlist_in (version ∷ line ∷ [])))
-  head_is version first inputs outputs is =
+  head_is : (first : List ℕ) → IsVersion first → (inputs outputs : ℕ) → statement ≡ statements.Ports inputs outputs
+      → first ∷ line ∷ [] ≡ map spaced (all_lines (netlist_in (first ∷ line ∷ [])))
+  head_is first (version, at_first) inputs outputs is =
       let now : statement_in line ≡ Some (statements.Ports inputs outputs) = says ∙ ap (λ (s : Statement). Some s) is in
-      let net : netlist_in (version ∷ line ∷ []) ≡ empty_netlist inputs outputs = rw (first, now) refl in
-      rw (line_found version statements.Version first, line_found line (statements.Ports inputs outputs) now) refl
+      let net : netlist_in (first ∷ line ∷ []) ≡ versioned version inputs outputs = rw (at_first, now) refl in
+      rw (line_found first (statements.Version version) at_first, line_found line (statements.Ports inputs outputs) now) refl
       ∙ sym (ap (λ (n : PlainNetlist). map spaced (all_lines n)) net)
 
-  lacks : (version ports : List ℕ) (lines : List (List ℕ)) (inputs outputs : ℕ) → statement_in version ≡ Some statements.Version → statement_in ports ≡ Some (statements.Ports inputs outputs)
+  lacks : (version ports : List ℕ) (lines : List (List ℕ)) (its : kinds.Version) (inputs outputs : ℕ) → statement_in version ≡ Some (statements.Version its) → statement_in ports ≡ Some (statements.Ports inputs outputs)
       → NoneLater (rank (section_of statement)) lines → Lacks (rank (section_of statement)) (netlist_in (version ∷ ports ∷ lines))
-  lacks version ports lines inputs outputs first second none =
+  lacks version ports lines its inputs outputs first second none =
       let n = rank (section_of statement) in
       record {
         cells = λ lt. rw (first, second) (none_of n (λ l. cell_by (statement_in l)) (λ l le. no_cell n (statement_in l) le lt) lines none);
         outputs = λ lt. rw (first, second) (none_of n (λ l. output_by (statement_in l)) (λ l le. no_output n (statement_in l) le lt) lines none);
+        states = λ lt. rw (first, second) (none_of n (λ l. state_by (statement_in l)) (λ l le. no_state n (statement_in l) le lt) lines none);
         input_names = λ lt. rw (first, second) (none_of n (λ l. input_name_by l (statement_in l)) (λ l le. no_input_name n l (statement_in l) le lt) lines none);
         output_names = λ lt. rw (first, second) (none_of n (λ l. output_name_by l (statement_in l)) (λ l le. no_output_name n l (statement_in l) le lt) lines none);
       }
 
   -- one more line
-  pub its_next : (lines : List (List ℕ)) → AreItsLines lines → follows_lines lines (section_of statement) ≡ true → rank (section_of statement) < 7 → AreItsLines (lines ++ line ∷ [])
-  its_next [] are stands high = says ∙ ap (λ (s : Statement). Some s) (first_is statement stands)
+  pub its_next : (lines : List (List ℕ)) → AreItsLines lines → follows_lines lines (section_of statement) ≡ true → rank (section_of statement) < 8 → AreItsLines (lines ++ line ∷ [])
+  its_next [] are stands high = let first = first_is statement stands in (first.0, says ∙ ap (λ (s : Statement). Some s) first.1)
   its_next (version ∷ []) are stands high =
       let ports = second_is statement stands in
       (are, (ports.0, ports.1, says ∙ ap (λ (s : Statement). Some s) ports.2), head_is version are ports.0 ports.1 ports.2)
@@ -187,7 +244,7 @@ module _ (line : List ℕ) (statement : Statement) (says : statement_in line ≡
       let parts = and_parts (leb 2 (rank section)) (list_all (λ line. leb (rank_by (statement_in line)) (rank section)) lines) stands in
       let low : 2 ≤ rank section = leb-true _ _ parts.0 in
       let net : netlist_in (before ++ line ∷ []) ≡ with_statement line statement (netlist_in before) = lists_next line statement says before ∙ behind_head line statement (netlist_in before) low in
-      let more = grown line statement (netlist_in before) low high (lacks version ports lines are.1.0 are.1.1 are.0 are.1.2 parts.1) in (
+      let more = grown line (netlist_in before) statement low high (lacks version ports lines are.0.0 are.1.0 are.1.1 are.0.1 are.1.2 parts.1) in (
         are.0,
         are.1,
         ap (λ (l : List (List ℕ)). l ++ line ∷ []) are.2
@@ -199,7 +256,7 @@ module _ (line : List ℕ) (statement : Statement) (says : statement_in line ≡
   -- the last line
   pub its_end : (lines : List (List ℕ)) → AreItsLines lines → follows_lines lines (section_of statement) ≡ true → statement ≡ statements.End
       → lines ++ line ∷ [] ≡ map spaced (netlist_words (netlist_in (lines ++ line ∷ [])))
-  its_end [] are stands end = absurd (let first : statements.Version ≡ statements.End = sym (first_is statement stands) ∙ end in cc)
+  its_end [] are stands end = let its = first_is statement stands in absurd (let first : statements.Version its.0 ≡ statements.End = sym its.1 ∙ end in cc)
   its_end (version ∷ []) are stands end =
       let ports = second_is statement stands in absurd (let second : statements.Ports ports.0 ports.1 ≡ statements.End = sym ports.2 ∙ end in cc)
   its_end (version ∷ ports ∷ lines) are stands end =

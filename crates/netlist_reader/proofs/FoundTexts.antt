@@ -16,7 +16,7 @@ use Rattle.netlist_reader.specs.declared.refusals.NetRefusal.{NetRefusal}
 use Rattle.netlist_reader.specs.declared.refusals.NetRefusal.TheVariants as refusals
 use Rattle.netlist_reader.specs.Statements.{statement_in}
 use Rattle.netlist_reader.specs.Limits.{limit_of}
-use Rattle.netlist_reader.specs.Places.{rank, section_of, netlist_in, follows_lines, fits_port, stands_after, refusal_by, line_refusal, first_refusal, is_end_by, is_end, to_end, has_end}
+use Rattle.netlist_reader.specs.Places.{rank, section_of, netlist_in, follows_lines, fits_behind, stands_after, refusal_by, line_refusal, first_refusal, is_end_by, is_end, to_end, has_end}
 use Rattle.netlist_reader.specs.Verdicts.{limit, lines_in, too_long, early, after_lines, after_end, judged}
 use Rattle.netlist_reader.specs.Laws.{OnlyTextsAreRead}
 use Rattle.netlist_reader.proofs.Bools.{and_parts}
@@ -33,7 +33,7 @@ record IsRight (before : List (List ℕ)) (line : List ℕ) : Type 0 where
 right_by : (before : List (List ℕ)) (line : List ℕ) (statement : Statement) (stands : Bool) → statement_in line ≡ Some statement → stands_after before statement ≡ stands
     → cond stands (option_map (λ quantity. refusals.Limit quantity) (limit_of line statement)) (Some (refusals.BadLine (length before + 1))) ≡ None → IsRight before line
 right_by before line statement true says e h =
-    record { statement = statement; says = says; stands = (and_parts (follows_lines before (section_of statement)) (fits_port (netlist_in before) statement) e).0 }
+    record { statement = statement; says = says; stands = (and_parts (follows_lines before (section_of statement)) (fits_behind (netlist_in before) statement) e).0 }
 right_by before line statement false says e h = absurd cc
 
 right_said : (before : List (List ℕ)) (line : List ℕ) (said : Option Statement) → statement_in line ≡ said → refusal_by before line said ≡ None → IsRight before line
@@ -44,22 +44,24 @@ both_none : (first rest : Option NetRefusal) → option_or first rest ≡ None �
 both_none None rest h = (refl, h)
 both_none (Some refusal) rest h = absurd cc
 
-not_end : (statement : Statement) → is_end_by (Some statement) ≡ false → rank (section_of statement) < 7
-not_end statements.Version h = omega arith
+not_end : (statement : Statement) → is_end_by (Some statement) ≡ false → rank (section_of statement) < 8
+not_end (statements.Version version) h = omega arith
 not_end (statements.Ports inputs outputs) h = omega arith
 not_end (statements.Input rail) h = omega arith
 not_end (statements.OneCell cell) h = omega arith
 not_end (statements.Output rail) h = omega arith
+not_end (statements.State state) h = omega arith
 not_end (statements.InputName port) h = omega arith
 not_end (statements.OutputName port) h = omega arith
 not_end statements.End h = absurd cc
 
 is_the_end : (statement : Statement) → is_end_by (Some statement) ≡ true → statement ≡ statements.End
-is_the_end statements.Version h = absurd cc
+is_the_end (statements.Version version) h = absurd cc
 is_the_end (statements.Ports inputs outputs) h = absurd cc
 is_the_end (statements.Input rail) h = absurd cc
 is_the_end (statements.OneCell cell) h = absurd cc
 is_the_end (statements.Output rail) h = absurd cc
+is_the_end (statements.State state) h = absurd cc
 is_the_end (statements.InputName port) h = absurd cc
 is_the_end (statements.OutputName port) h = absurd cc
 is_the_end statements.End h = refl

@@ -16,6 +16,7 @@ pub mod WrittenLines
 pub mod Sections
 pub mod NetParts
 pub mod RisingPorts
+pub mod RisingLatches
 pub mod WrittenTexts
 pub mod FoundWords
 pub mod FoundLines

@@ -7,20 +7,24 @@ use Rattle.pulse_ids.specs.Ids.{WireId}
 use Rattle.pulse_ids.specs.Lists.{IsIn}
 use Rattle.pulse_ids.specs.Names.{IsPortName}
 use Rattle.pulse_ids.specs.Quantities.{greatest_of}
-use Rattle.pulse_ids.specs.declared.quantities.Quantity.TheVariants.{NameBytes}
+use Rattle.pulse_ids.specs.declared.quantities.Quantity.TheVariants.{Latches, NameBytes}
 use Rattle.pulse_ids.proofs.CallerLemmas.{IsIn-left, IsIn-right, IsIn-map, IsIn-flat_map}
 use Rattle.cell_netlist.specs.declared.lines.Rail.{Rail}
+use Rattle.cell_netlist.specs.declared.kinds.Version.{Version}
+use Rattle.cell_netlist.specs.declared.kinds.Version.TheVariants.{One, Two}
+use Rattle.cell_netlist.specs.declared.lines.StateLine.{StateLine}
 use Rattle.cell_netlist.specs.declared.lines.Cell.{Cell}
 use Rattle.cell_netlist.specs.declared.lines.Cell.TheVariants.{La, Fa, Split, Droc}
 use Rattle.cell_netlist.specs.Netlists.{PlainNetlist, IsNetlist, wire_of, used, outs, reads, driven, read}
 use Rattle.cell_netlist.specs.Names.{AreNamesFrom}
-use Rattle.cell_netlist.specs.Text.{rail_words, cell_words, name_words}
+use Rattle.cell_netlist.specs.States.{AreStatesFrom, AreStatesOf}
+use Rattle.cell_netlist.specs.Text.{rail_words, cell_words, state_words, name_words}
 use Rattle.cell_netlist.proofs.CallerLemmas.{wire_below}
-use Rattle.netlist_reader.specs.declared.statements.Statement.TheVariants.{Input, OneCell, Output, InputName, OutputName}
+use Rattle.netlist_reader.specs.declared.statements.Statement.TheVariants.{Input, OneCell, Output, State, InputName, OutputName}
 use Rattle.netlist_reader.specs.Words.{name_in}
 use Rattle.netlist_reader.specs.Limits.{over, over_wire, over_output, over_cell}
 use Rattle.netlist_reader.proofs.WrittenWords.{FitsOutput}
-use Rattle.netlist_reader.proofs.WrittenLines.{spaced, FitsCell, input_read, output_line_read, cell_read, input_name_read, output_name_read, input_name_is, output_name_is}
+use Rattle.netlist_reader.proofs.WrittenLines.{spaced, FitsCell, input_read, output_line_read, cell_read, state_line_read, input_name_read, output_name_read, input_name_is, output_name_is}
 use Rattle.netlist_reader.proofs.Sections.{all_added, IsWritten}
 
 -- wires
@@ -85,6 +89,19 @@ module _ (net : PlainNetlist) (shape : IsNetlist net) where
       (λ w i. wire_small w (IsIn-right w (driven net) (read net) (IsIn-left w (flat_map reads net.cells) (map wire_of net.output_rails) (IsIn-flat_map reads w cell net.cells h i)))) in
       record { line = cell_read cell small.1; small = small.0 }
 
+-- a state line within the limits
+state_written : (low : ℕ) (states : List StateLine) → AreStatesFrom low states → (state : StateLine) → IsIn state states → IsWritten (state_words state) (State state)
+state_written low [] all state h = absurd h
+state_written low (first ∷ states) all state (inl e) = subst (λ (s : StateLine). IsWritten (state_words s) (State s)) e (record {
+  line = state_line_read first (omega (arith, all.1)) all.2;
+  small = rw (lt-ltb first.latch (greatest_of Latches) all.1) refl;
+})
+state_written low (first ∷ states) all state (inr h) = state_written (first.latch + 1) states all.3 state h
+
+pub states_written : (version : Version) (states : List StateLine) → AreStatesOf version states → (state : StateLine) → IsIn state states → IsWritten (state_words state) (State state)
+states_written One states none state h = absurd (subst (λ (l : List StateLine). IsIn state l) none h)
+states_written Two states all state h = state_written 0 states all state h
+
 -- a named port is in range and its name is right
 right_name : (low ports : ℕ) (names : List (ℕ × List ℕ)) → AreNamesFrom low ports names → (named : ℕ × List ℕ) → IsIn named names → (named.0 < ports) × IsPortName named.1
 right_name low ports [] all named h = absurd h
@@ -119,6 +136,11 @@ pub outputs_added : (rails : List Rail) (net : PlainNetlist) → all_added (rail
 outputs_added [] net = ap (λ (l : List Rail). record net { output_rails = l }) (sym (append-nil net.output_rails))
 outputs_added (rail ∷ rails) net =
     outputs_added rails (record net { output_rails = net.output_rails ++ rail ∷ [] }) ∙ ap (λ (l : List Rail). record net { output_rails = l }) (append_assoc net.output_rails (rail ∷ []) rails)
+
+pub states_added : (states : List StateLine) (net : PlainNetlist) → all_added state_words (λ x. State x) states net ≡ record net { states = net.states ++ states }
+states_added [] net = ap (λ (l : List StateLine). record net { states = l }) (sym (append-nil net.states))
+states_added (state ∷ states) net =
+    states_added states (record net { states = net.states ++ state ∷ [] }) ∙ ap (λ (l : List StateLine). record net { states = l }) (append_assoc net.states (state ∷ []) states)
 
 abbrev AreIn : (ℕ × List ℕ → List ℕ) → List (ℕ × List ℕ) → Type 0
 AreIn name names = (named : ℕ × List ℕ) → IsIn named names → name named ≡ named.1

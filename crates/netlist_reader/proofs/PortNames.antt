@@ -10,20 +10,21 @@ use Rattle.pulse_ids.specs.Names.{IsPortName}
 use Rattle.pulse_ids.specs.Quantities.{greatest_of}
 use Rattle.pulse_ids.specs.declared.quantities.Quantity.{Quantity}
 use Rattle.pulse_ids.specs.declared.quantities.Quantity.TheVariants.{NameBytes}
+use Rattle.cell_netlist.specs.declared.kinds.Version.TheVariants.{One, Two}
 use Rattle.cell_netlist.specs.Names.{AreNamesFrom, HasRisingPorts, IsAboveAll}
 use Rattle.word_scan.specs.Lines.{HasNoFeed}
 use Rattle.word_scan.specs.Words.{parted}
 use Rattle.word_scan.specs.Decimals.{plain_decimal_of}
 use Rattle.netlist_reader.specs.declared.statements.Statement.{Statement}
-use Rattle.netlist_reader.specs.declared.statements.Statement.TheVariants.{Version, Ports, Input, OneCell, Output, InputName, OutputName, End}
+use Rattle.netlist_reader.specs.declared.statements.Statement.TheVariants.{Version, Ports, Input, OneCell, Output, State, InputName, OutputName, End}
 use Rattle.netlist_reader.specs.Words.{by_meaning, after_space, name_in}
-use Rattle.netlist_reader.specs.Statements.{ports_in, rail_in, named_in, cell_in, statement_by, statement_in}
+use Rattle.netlist_reader.specs.Statements.{ports_in, rail_in, state_in, named_in, cell_in, statement_by, statement_in}
 use Rattle.netlist_reader.specs.Limits.{over_name}
 use Rattle.netlist_reader.specs.Places.{is_above}
 use Rattle.netlist_reader.proofs.Bools.{and_parts, and_true, and_false}
 
 -- the last of rising ports decides whether a port is above all
-last_by : (first last port : ℕ) (b : Bool) (rest : Bool) → first < last → ltb last port ≡ b → rest ≡ ltb last port → (ltb first port && rest) ≡ ltb last port
+pub last_by : (first last port : ℕ) (b : Bool) (rest : Bool) → first < last → ltb last port ≡ b → rest ≡ ltb last port → (ltb first port && rest) ≡ ltb last port
 last_by first last port true rest lt e h = let below = ltb-true _ _ e in let here : ltb first port ≡ true = lt-ltb _ _ (omega arith) in rw (here, h) refl
 last_by first last port false rest lt e h = ap (λ b. ltb first port && b) (h ∙ e) ∙ and_false (ltb first port) ∙ sym e
 
@@ -100,30 +101,34 @@ named_by : (parts : Option (List ℕ × List ℕ)) (f : ℕ → Statement)
 named_by None f h = absurd cc
 named_by (Some parts) f h = name_by (bytes_eq parts.1 []) parts.1 (plain_decimal_of parts.0) f refl h
 
-rest_by : (rest : List ℕ) (cell : Option Statement) (a b c d e : Bool) → names_port cell ≡ false
+rest_by : (rest : List ℕ) (cell : Option Statement) (a b c s d e : Bool) → names_port cell ≡ false
     → names_port (cond a (ports_in rest) (cond b (option_map Input (rail_in rest))
-    (cond c (option_map Output (rail_in rest)) (cond d (option_map InputName (named_in rest)) (cond e (option_map OutputName (named_in rest)) cell))))) ≡ true
+    (cond c (option_map Output (rail_in rest)) (cond s (option_map State (state_in rest))
+    (cond d (option_map InputName (named_in rest)) (cond e (option_map OutputName (named_in rest)) cell)))))) ≡ true
     → HasName rest
-rest_by rest cell true b c d e f h = absurd (true≢false (sym h ∙ ports_by (parted 32 rest)))
-rest_by rest cell false true c d e f h = absurd (true≢false (sym h ∙ never Input (λ x. refl) (rail_in rest)))
-rest_by rest cell false false true d e f h = absurd (true≢false (sym h ∙ never Output (λ x. refl) (rail_in rest)))
-rest_by rest cell false false false true e f h = named_by (parted 32 rest) InputName h
-rest_by rest cell false false false false true f h = named_by (parted 32 rest) OutputName h
-rest_by rest cell false false false false false f h = absurd (true≢false (sym h ∙ f))
+rest_by rest cell true b c s d e f h = absurd (true≢false (sym h ∙ ports_by (parted 32 rest)))
+rest_by rest cell false true c s d e f h = absurd (true≢false (sym h ∙ never Input (λ x. refl) (rail_in rest)))
+rest_by rest cell false false true s d e f h = absurd (true≢false (sym h ∙ never Output (λ x. refl) (rail_in rest)))
+rest_by rest cell false false false true d e f h = absurd (true≢false (sym h ∙ never State (λ x. refl) (state_in rest)))
+rest_by rest cell false false false false true e f h = named_by (parted 32 rest) InputName h
+rest_by rest cell false false false false false true f h = named_by (parted 32 rest) OutputName h
+rest_by rest cell false false false false false false f h = absurd (true≢false (sym h ∙ f))
 
-line_by : (parts : Option (List ℕ × List ℕ)) (version end : Bool) → names_port
-    (cond version (Some Version) (cond end (Some End) (option_and_then (λ parts. statement_by parts.0 parts.1) parts))) ≡ true
+line_by : (parts : Option (List ℕ × List ℕ)) (one two end : Bool) → names_port
+    (cond one (Some (Version One)) (cond two (Some (Version Two)) (cond end (Some End) (option_and_then (λ parts. statement_by parts.0 parts.1) parts)))) ≡ true
     → HasName (unwrap_or (option_map (λ (parts : List ℕ × List ℕ). parts.1) parts) [])
-line_by parts true end h = absurd cc
-line_by parts false true h = absurd cc
-line_by None false false h = absurd cc
-line_by (Some parts) false false h =
+line_by parts true two end h = absurd cc
+line_by parts false true end h = absurd cc
+line_by parts false false true h = absurd cc
+line_by None false false false h = absurd cc
+line_by (Some parts) false false false h =
     rest_by parts.1 (option_map OneCell (cell_in parts.0 parts.1)) (bytes_eq parts.0 (codes "ports")) (bytes_eq parts.0 (codes "input")) (bytes_eq parts.0 (codes "output"))
+    (bytes_eq parts.0 (codes "state"))
     (bytes_eq parts.0 (codes "iname"))
     (bytes_eq parts.0 (codes "oname")) (never OneCell (λ x. refl) (cell_in parts.0 parts.1)) h
 
 has_name : (line : List ℕ) → names_port (statement_in line) ≡ true → 1 ≤ length (name_in line)
-has_name line h = line_by (parted 32 line) (bytes_eq line (codes "xsfq 1")) (bytes_eq line (codes "end")) h
+has_name line h = line_by (parted 32 line) (bytes_eq line (codes "xsfq 1")) (bytes_eq line (codes "xsfq 2")) (bytes_eq line (codes "end")) h
 
 short_by : (n : ℕ) (long : Bool) → ltb (greatest_of NameBytes) n ≡ long → ◌≡◌ {A = Option Quantity} (cond long (Some NameBytes) None) None → n ≤ greatest_of NameBytes
 short_by n true e h = absurd cc

@@ -7,7 +7,7 @@ use Rattle.cell_netlist.specs.Netlists.{PlainNetlist}
 use Rattle.cell_netlist.specs.Names.{AreNamesFrom}
 use Rattle.cell_netlist.specs.Text.{name_words}
 use Rattle.netlist_reader.specs.declared.statements.Statement.TheVariants.{InputName, OutputName}
-use Rattle.netlist_reader.specs.Places.{is_above, fits_port}
+use Rattle.netlist_reader.specs.Places.{is_above, fits_behind}
 use Rattle.netlist_reader.specs.Building.{with_statement}
 use Rattle.netlist_reader.proofs.WrittenLines.{spaced}
 
@@ -39,10 +39,10 @@ InputsFit names net = FitBehind net.inputs net.input_names names
 abbrev pub OutputsFit : List (ℕ × List ℕ) → PlainNetlist → Type 0
 OutputsFit names net = FitBehind net.outputs net.output_names names
 
-pub input_now : (named : ℕ × List ℕ) (names : List (ℕ × List ℕ)) (net : PlainNetlist) → InputsFit (named ∷ names) net → fits_port net (InputName named.0) ≡ true
+pub input_now : (named : ℕ × List ℕ) (names : List (ℕ × List ℕ)) (net : PlainNetlist) → InputsFit (named ∷ names) net → fits_behind net (InputName named.0) ≡ true
 input_now named names net fits = fits_now net.inputs net.input_names names named fits
 
-pub output_now : (named : ℕ × List ℕ) (names : List (ℕ × List ℕ)) (net : PlainNetlist) → OutputsFit (named ∷ names) net → fits_port net (OutputName named.0) ≡ true
+pub output_now : (named : ℕ × List ℕ) (names : List (ℕ × List ℕ)) (net : PlainNetlist) → OutputsFit (named ∷ names) net → fits_behind net (OutputName named.0) ≡ true
 output_now named names net fits = fits_now net.outputs net.output_names names named fits
 
 pub input_next : (named : ℕ × List ℕ) (names : List (ℕ × List ℕ)) (net : PlainNetlist) → InputsFit (named ∷ names) net

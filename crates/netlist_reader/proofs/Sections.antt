@@ -9,11 +9,11 @@ use Rattle.word_scan.proofs.CallerLemmasDecimals.{IsFree}
 use Rattle.word_scan.proofs.CallerLemmasReading.{read_joined}
 use Rattle.netlist_reader.specs.declared.statements.Statement.{Statement}
 use Rattle.netlist_reader.specs.declared.places.Section.{Section}
-use Rattle.netlist_reader.specs.declared.places.Section.TheVariants.{Version, Ports, InputRails, Cells, OutputRails, InputNames, OutputNames, End}
+use Rattle.netlist_reader.specs.declared.places.Section.TheVariants.{Version, Ports, InputRails, Cells, OutputRails, States, InputNames, OutputNames, End}
 use Rattle.netlist_reader.specs.declared.built.Built.{Built}
 use Rattle.netlist_reader.specs.declared.refusals.NetRefusal.{NetRefusal}
 use Rattle.netlist_reader.specs.Limits.{limit_of}
-use Rattle.netlist_reader.specs.Places.{rank, section_of, fits_port}
+use Rattle.netlist_reader.specs.Places.{rank, section_of, fits_behind}
 use Rattle.netlist_reader.specs.Building.{follows, has_ended_by, has_ended, with_statement, after_statement, read_by, line_read, start}
 use Rattle.netlist_reader.proofs.Steps.{going, behind_ports}
 use Rattle.netlist_reader.proofs.WrittenLines.{spaced, IsLineOf}
@@ -33,7 +33,7 @@ pub record Leads (lines : List (List (List ℕ))) (low : ℕ) (net : PlainNetlis
   pub free : (words : List (List ℕ)) → IsIn words lines → IsFree 10 (spaced words)
 
 pub one_read : (built : Built) (words : List (List ℕ)) (statement : Statement) → has_ended built ≡ false → IsLineOf words statement → limit_of (spaced words) statement ≡ None
-    → follows built.last (section_of statement) ≡ true → fits_port built.net statement ≡ true → line_read built (spaced words) ≡ going (after_statement built (spaced words) statement)
+    → follows built.last (section_of statement) ≡ true → fits_behind built.net statement ≡ true → line_read built (spaced words) ≡ going (after_statement built (spaced words) statement)
 one_read built words statement lasts is small follows fits =
     rw lasts (ap (read_by built (spaced words)) is.says ∙ rw (follows, fits, small) refl)
 
@@ -44,12 +44,13 @@ free_more [] words f g w (inr none) = absurd none
 free_more (first ∷ lines) words f g w (inl e) = f w (inl e)
 free_more (first ∷ lines) words f g w (inr h) = free_more lines words (λ x i. f x (inr i)) g w h
 
-not_ended : (section : Section) → rank section < 7 → has_ended_by (Some section) ≡ false
+not_ended : (section : Section) → rank section < 8 → has_ended_by (Some section) ≡ false
 not_ended Version h = refl
 not_ended Ports h = refl
 not_ended InputRails h = refl
 not_ended Cells h = refl
 not_ended OutputRails h = refl
+not_ended States h = refl
 not_ended InputNames h = refl
 not_ended OutputNames h = refl
 not_ended End h = absurd (omega arith)
@@ -57,12 +58,12 @@ not_ended End h = absurd (omega arith)
 -- one more line
 more_read : (lines : List (List (List ℕ))) (low : ℕ) (net : PlainNetlist) (words : List (List ℕ)) (statement : Statement) → Leads lines low net → IsLineOf words statement
     → limit_of (spaced words) statement ≡ None
-    → fits_port net statement ≡ true → 2 ≤ rank (section_of statement) → low ≤ rank (section_of statement) → rank (section_of statement) < 7
+    → fits_behind net statement ≡ true → 2 ≤ rank (section_of statement) → low ≤ rank (section_of statement) → rank (section_of statement) < 8
     → Leads (lines ++ words ∷ []) (rank (section_of statement)) (with_statement (spaced words) statement net)
 more_read lines low net words statement leads is small fits body le lasting =
     let section = section_of statement in
     let b = leads.built in
-    let one = one_read b words statement leads.stage.lasts is small (leads.stage.ready section body le) (ap (λ (n : PlainNetlist). fits_port n statement) leads.stage.net_is ∙ fits) in
+    let one = one_read b words statement leads.stage.lasts is small (leads.stage.ready section body le) (ap (λ (n : PlainNetlist). fits_behind n statement) leads.stage.net_is ∙ fits) in
     record {
       built = after_statement b (spaced words) statement;
       reads = ap (read_on line_read (going start)) (map-append spaced lines (words ∷ [])) ∙ read_joined line_read (going start) (map spaced lines) (spaced words ∷ [])
@@ -97,8 +98,8 @@ pub record IsWritten (words : List (List ℕ)) (statement : Statement) : Type 0 
 
 -- the lines of a section, whose items fit behind what was read before
 module _ {X : Type 0} (words_of : X → List (List ℕ)) (statement_of : X → Statement) (section : Section) (in_section : (x : X) → section_of (statement_of x) ≡ section)
-    (body : 2 ≤ rank section) (lasting : rank section < 7) (Fits : List X → PlainNetlist → Type 0)
-    (fits_now : (x : X) (items : List X) (net : PlainNetlist) → Fits (x ∷ items) net → fits_port net (statement_of x) ≡ true)
+    (body : 2 ≤ rank section) (lasting : rank section < 8) (Fits : List X → PlainNetlist → Type 0)
+    (fits_now : (x : X) (items : List X) (net : PlainNetlist) → Fits (x ∷ items) net → fits_behind net (statement_of x) ≡ true)
     (fits_next : (x : X) (items : List X) (net : PlainNetlist) → Fits (x ∷ items) net → Fits items (with_statement (spaced (words_of x)) (statement_of x) net)) where
   pub section_read : (items : List X) (lines : List (List (List ℕ))) (low : ℕ) (net : PlainNetlist) → Leads lines low net → low ≤ rank section
       → ((x : X) → IsIn x items → IsWritten (words_of x) (statement_of x)) → Fits items net → Leads (lines ++ map words_of items) (rank section) (all_added words_of statement_of items net)

@@ -8,18 +8,18 @@ use Rattle.std.proofs.lemmas.List.{length-append}
 use Rattle.std.proofs.lemmas.List.Folds.{list_all-append, list_any-append}
 use Rattle.std.proofs.lemmas.List.Concat.{flat_map-append}
 use Rattle.pulse_ids.specs.declared.quantities.Quantity.{Quantity}
-use Rattle.cell_netlist.specs.Netlists.{PlainNetlist, netlist_of}
+use Rattle.cell_netlist.specs.declared.kinds.Version as kinds
+use Rattle.cell_netlist.specs.Netlists.{PlainNetlist, netlist_of, with_states}
 use Rattle.netlist_reader.specs.declared.statements.Statement.{Statement}
 use Rattle.netlist_reader.specs.declared.statements.Statement.TheVariants as statements
 use Rattle.netlist_reader.specs.declared.places.Section.{Section}
-use Rattle.netlist_reader.specs.declared.places.Section.TheVariants.{Version, Ports, InputRails, Cells, OutputRails, InputNames, OutputNames, End}
+use Rattle.netlist_reader.specs.declared.places.Section.TheVariants.{Version, Ports, InputRails, Cells, OutputRails, States, InputNames, OutputNames, End}
 use Rattle.netlist_reader.specs.declared.built.Built.{Built}
 use Rattle.netlist_reader.specs.declared.refusals.NetRefusal.{NetRefusal}
 use Rattle.netlist_reader.specs.declared.refusals.NetRefusal.TheVariants as refusals
 use Rattle.netlist_reader.specs.Statements.{statement_in}
 use Rattle.netlist_reader.specs.Limits.{limit_of}
-use Rattle.netlist_reader.specs.Places.{rank, section_of, rank_by, input_by, cell_by, output_by, input_name_by, output_name_by, ports_by, inputs_of, outputs_of, netlist_in, follows_lines}
-use Rattle.netlist_reader.specs.Places.{fits_port, stands_after, refusal_by, line_refusal, is_end_by, is_end, has_end}
+use Rattle.netlist_reader.specs.Places.{rank, section_of, rank_by, input_by, cell_by, output_by, state_by, input_name_by, output_name_by, version_of, ports_by, inputs_of, outputs_of, netlist_in, follows_lines, fits_behind, stands_after, refusal_by, line_refusal, is_end_by, is_end, has_end}
 use Rattle.netlist_reader.specs.Building.{follows, inputs_after, with_statement, has_ended_by, has_ended, start, allows, after_statement, unless_over, read_by, line_read}
 use Rattle.netlist_reader.proofs.Bools.{and_parts, and_true, and_false}
 
@@ -32,7 +32,7 @@ refused refusal = Err refusal
 -- the section of the last line, by all lines
 abbrev pub IsPlaced : List (List ℕ) → Option Section → Type 0
 IsPlaced [] last = last ≡ None
-IsPlaced (version ∷ []) last = (last ≡ Some Version) × (statement_in version ≡ Some statements.Version)
+IsPlaced (version ∷ []) last = (last ≡ Some Version) × (its : kinds.Version) × (statement_in version ≡ Some (statements.Version its))
 IsPlaced (version ∷ ports ∷ lines) last = (section : Section) × (last ≡ Some section) × (1 ≤ rank section)
     × ((n : ℕ) → 2 ≤ n → list_all (λ line. leb (rank_by (statement_in line)) n) lines ≡ leb (rank section) n)
 
@@ -54,6 +54,7 @@ behind_ports Ports section h = refl
 behind_ports InputRails section h = refl
 behind_ports Cells section h = refl
 behind_ports OutputRails section h = refl
+behind_ports States section h = refl
 behind_ports InputNames section h = refl
 behind_ports OutputNames section h = refl
 behind_ports End section h = refl
@@ -70,12 +71,13 @@ place_is (version ∷ ports ∷ lines) last section placed =
     ∙ no_earlier (rank section) (rank placed.0) (list_all (λ line. leb (rank_by (statement_in line)) (rank section)) lines) (leb 2 (rank section)) refl (placed.3 (rank section))
 
 -- what is placed with one more line
-pub first_is : (statement : Statement) → eqb (rank (section_of statement)) 0 ≡ true → statement ≡ statements.Version
-first_is statements.Version h = refl
+pub first_is : (statement : Statement) → eqb (rank (section_of statement)) 0 ≡ true → (its : kinds.Version) × (statement ≡ statements.Version its)
+first_is (statements.Version its) h = (its, refl)
 first_is (statements.Ports inputs outputs) h = absurd cc
 first_is (statements.Input rail) h = absurd cc
 first_is (statements.OneCell cell) h = absurd cc
 first_is (statements.Output rail) h = absurd cc
+first_is (statements.State state) h = absurd cc
 first_is (statements.InputName port) h = absurd cc
 first_is (statements.OutputName port) h = absurd cc
 first_is statements.End h = absurd cc
@@ -89,7 +91,7 @@ module _ (line : List ℕ) (statement : Statement) (says : statement_in line ≡
   rank_is = ap rank_by says
 
   placed_next : (lines : List (List ℕ)) (last : Option Section) → IsPlaced lines last → follows_lines lines (section_of statement) ≡ true → IsPlaced (lines ++ line ∷ []) (Some (section_of statement))
-  placed_next [] last placed stands = let version = first_is statement stands in (ap (λ (s : Statement). Some (section_of s)) version, says ∙ ap (λ (s : Statement). Some s) version)
+  placed_next [] last placed stands = let first = first_is statement stands in (ap (λ (s : Statement). Some (section_of s)) first.1, first.0, says ∙ ap (λ (s : Statement). Some s) first.1)
   placed_next (version ∷ []) last placed stands =
       (section_of statement, refl, omega (arith, eqb-true _ _ stands), λ n two. sym (le-leb (rank (section_of statement)) n (omega (arith, eqb-true _ _ stands))))
   placed_next (version ∷ ports ∷ lines) last placed stands =
@@ -111,40 +113,47 @@ module _ (line : List ℕ) (statement : Statement) (says : statement_in line ≡
 
   -- the netlist that lines tell with one more, but for the ports
   pub lists_next : (lines : List (List ℕ)) → netlist_in (lines ++ line ∷ [])
-      ≡ netlist_of (unwrap_or (inputs_of (lines ++ line ∷ [])) 0) (unwrap_or (outputs_of (lines ++ line ∷ [])) 0)
+      ≡ with_states (version_of (lines ++ line ∷ [])) (flat_map (λ l. state_by (statement_in l)) lines ++ state_by (Some statement))
+      (netlist_of (unwrap_or (inputs_of (lines ++ line ∷ [])) 0) (unwrap_or (outputs_of (lines ++ line ∷ [])) 0)
       (flat_map (λ l. input_by (statement_in l)) lines ++ input_by (Some statement))
       (flat_map (λ l. cell_by (statement_in l)) lines ++ cell_by (Some statement))
       (flat_map (λ l. output_by (statement_in l)) lines ++ output_by (Some statement))
       (flat_map (λ l. input_name_by l (statement_in l)) lines ++ input_name_by line (Some statement))
-      (flat_map (λ l. output_name_by l (statement_in l)) lines ++ output_name_by line (Some statement))
+      (flat_map (λ l. output_name_by l (statement_in l)) lines ++ output_name_by line (Some statement)))
   lists_next lines = rw (
     added (λ l. input_by (statement_in l)) lines (input_by (Some statement)) (ap input_by says),
     added (λ l. cell_by (statement_in l)) lines (cell_by (Some statement)) (ap cell_by says),
     added (λ l. output_by (statement_in l)) lines (output_by (Some statement)) (ap output_by says),
+    added (λ l. state_by (statement_in l)) lines (state_by (Some statement)) (ap state_by says),
     added (λ l. input_name_by l (statement_in l)) lines (input_name_by line (Some statement)) (ap (input_name_by line) says),
     added (λ l. output_name_by l (statement_in l)) lines (output_name_by line (Some statement)) (ap (output_name_by line) says),
   ) refl
 
 -- a netlist with what a statement adds, behind the ports
 pub behind_head : (line : List ℕ) (statement : Statement) (net : PlainNetlist) → 2 ≤ rank (section_of statement)
-    → netlist_of net.inputs net.outputs (net.input_rails ++ input_by (Some statement)) (net.cells ++ cell_by (Some statement)) (net.output_rails ++ output_by (Some statement))
-    (net.input_names ++ input_name_by line (Some statement)) (net.output_names ++ output_name_by line (Some statement))
+    → with_states net.version (net.states ++ state_by (Some statement))
+    (netlist_of net.inputs net.outputs (net.input_rails ++ input_by (Some statement)) (net.cells ++ cell_by (Some statement)) (net.output_rails ++ output_by (Some statement))
+    (net.input_names ++ input_name_by line (Some statement)) (net.output_names ++ output_name_by line (Some statement)))
     ≡ with_statement line statement net
-behind_head line statements.Version net h = absurd (omega arith)
+behind_head line (statements.Version version) net h = absurd (omega arith)
 behind_head line (statements.Ports inputs outputs) net h = absurd (omega arith)
-behind_head line (statements.Input rail) net h = rw (append-nil net.cells, append-nil net.output_rails, append-nil net.input_names, append-nil net.output_names) refl
-behind_head line (statements.OneCell cell) net h = rw (append-nil net.input_rails, append-nil net.output_rails, append-nil net.input_names, append-nil net.output_names) refl
-behind_head line (statements.Output rail) net h = rw (append-nil net.input_rails, append-nil net.cells, append-nil net.input_names, append-nil net.output_names) refl
-behind_head line (statements.InputName port) net h = rw (append-nil net.input_rails, append-nil net.cells, append-nil net.output_rails, append-nil net.output_names) refl
-behind_head line (statements.OutputName port) net h = rw (append-nil net.input_rails, append-nil net.cells, append-nil net.output_rails, append-nil net.input_names) refl
-behind_head line statements.End net h = rw (append-nil net.input_rails, append-nil net.cells, append-nil net.output_rails, append-nil net.input_names, append-nil net.output_names) refl
+behind_head line (statements.Input rail) net h = rw (append-nil net.cells, append-nil net.output_rails, append-nil net.states, append-nil net.input_names, append-nil net.output_names) refl
+behind_head line (statements.OneCell cell) net h = rw (append-nil net.input_rails, append-nil net.output_rails, append-nil net.states, append-nil net.input_names, append-nil net.output_names) refl
+behind_head line (statements.Output rail) net h = rw (append-nil net.input_rails, append-nil net.cells, append-nil net.states, append-nil net.input_names, append-nil net.output_names) refl
+behind_head line (statements.State state) net h =
+    rw (append-nil net.input_rails, append-nil net.cells, append-nil net.output_rails, append-nil net.input_names, append-nil net.output_names) refl
+behind_head line (statements.InputName port) net h = rw (append-nil net.input_rails, append-nil net.cells, append-nil net.output_rails, append-nil net.states, append-nil net.output_names) refl
+behind_head line (statements.OutputName port) net h = rw (append-nil net.input_rails, append-nil net.cells, append-nil net.output_rails, append-nil net.states, append-nil net.input_names) refl
+behind_head line statements.End net h =
+    rw (append-nil net.input_rails, append-nil net.cells, append-nil net.output_rails, append-nil net.states, append-nil net.input_names, append-nil net.output_names) refl
 
 pub second_is : (statement : Statement) → eqb (rank (section_of statement)) 1 ≡ true → (inputs : ℕ) × (outputs : ℕ) × (statement ≡ statements.Ports inputs outputs)
-second_is statements.Version h = absurd cc
+second_is (statements.Version version) h = absurd cc
 second_is (statements.Ports inputs outputs) h = (inputs, outputs, refl)
 second_is (statements.Input rail) h = absurd cc
 second_is (statements.OneCell cell) h = absurd cc
 second_is (statements.Output rail) h = absurd cc
+second_is (statements.State state) h = absurd cc
 second_is (statements.InputName port) h = absurd cc
 second_is (statements.OutputName port) h = absurd cc
 second_is statements.End h = absurd cc
@@ -153,20 +162,21 @@ module _ (line : List ℕ) (statement : Statement) (says : statement_in line ≡
   net_next : (lines : List (List ℕ)) (last : Option Section) → IsPlaced lines last → follows_lines lines (section_of statement) ≡ true
       → with_statement line statement (netlist_in lines) ≡ netlist_in (lines ++ line ∷ [])
   net_next [] last placed stands =
-      let version = first_is statement stands in
-      let now : statement_in line ≡ Some statements.Version = says ∙ ap (λ (s : Statement). Some s) version in
-      ap (λ (s : Statement). with_statement line s (netlist_in [])) version ∙ sym (lists_next line statements.Version now [])
+      let first = first_is statement stands in
+      let now : statement_in line ≡ Some (statements.Version first.0) = says ∙ ap (λ (s : Statement). Some s) first.1 in
+      ap (λ (s : Statement). with_statement line s (netlist_in [])) first.1 ∙ sym (rw now refl)
   net_next (version ∷ []) last placed stands =
       let ports = second_is statement stands in
       let now : statement_in line ≡ Some (statements.Ports ports.0 ports.1) = says ∙ ap (λ (s : Statement). Some s) ports.2 in
-      ap (λ (s : Statement). with_statement line s (netlist_in (version ∷ []))) ports.2 ∙ sym (rw (placed.1, now) refl)
+      let made : with_statement line (statements.Ports ports.0 ports.1) (netlist_in (version ∷ [])) ≡ netlist_in (version ∷ line ∷ []) = rw (placed.2, now) refl in
+      ap (λ (s : Statement). with_statement line s (netlist_in (version ∷ []))) ports.2 ∙ made
   net_next (version ∷ ports ∷ lines) last placed stands =
       let two = leb-true _ _ (and_parts (leb 2 (rank (section_of statement))) (list_all (λ line. leb (rank_by (statement_in line)) (rank (section_of statement))) lines) stands).0 in
       sym (lists_next line statement says (version ∷ ports ∷ lines) ∙ behind_head line statement (netlist_in (version ∷ ports ∷ lines)) two)
 
   pub inputs_next : (lines : List (List ℕ)) (last : Option Section) → IsPlaced lines last → follows_lines lines (section_of statement) ≡ true
       → inputs_after (inputs_of lines) statement ≡ inputs_of (lines ++ line ∷ [])
-  inputs_next [] last placed stands = ap (inputs_after None) (first_is statement stands)
+  inputs_next [] last placed stands = ap (inputs_after None) (first_is statement stands).1
   inputs_next (version ∷ []) last placed stands =
       let ports = second_is statement stands in
       ap (inputs_after None) ports.2 ∙ sym (ap (λ (s : Option Statement). option_map (λ (p : ℕ × ℕ). p.0) (ports_by s)) (says ∙ ap (λ (s : Statement). Some s) ports.2))
@@ -175,21 +185,23 @@ module _ (line : List ℕ) (statement : Statement) (says : statement_in line ≡
       others (inputs_of (version ∷ ports ∷ lines)) statement two
     where
       others : (inputs : Option ℕ) (statement : Statement) → 2 ≤ rank (section_of statement) → inputs_after inputs statement ≡ inputs
-      others inputs statements.Version h = refl
+      others inputs (statements.Version version) h = refl
       others inputs (statements.Ports these those) h = absurd (omega arith)
       others inputs (statements.Input rail) h = refl
       others inputs (statements.OneCell cell) h = refl
       others inputs (statements.Output rail) h = refl
+      others inputs (statements.State state) h = refl
       others inputs (statements.InputName port) h = refl
       others inputs (statements.OutputName port) h = refl
       others inputs statements.End h = refl
 
   end_is : (statement : Statement) → has_ended_by (Some (section_of statement)) ≡ is_end_by (Some statement)
-  end_is statements.Version = refl
+  end_is (statements.Version version) = refl
   end_is (statements.Ports inputs outputs) = refl
   end_is (statements.Input rail) = refl
   end_is (statements.OneCell cell) = refl
   end_is (statements.Output rail) = refl
+  end_is (statements.State state) = refl
   end_is (statements.InputName port) = refl
   end_is (statements.OutputName port) = refl
   end_is statements.End = refl
@@ -216,8 +228,8 @@ module _ (line : List ℕ) (statement : Statement) (says : statement_in line ≡
 
   pub allowed_is : (lines : List (List ℕ)) (built : Built) → IsBuilt lines built → allows built statement ≡ stands_after lines statement
   allowed_is lines built is =
-      ap (λ b. b && fits_port built.net statement) (place_is lines built.last (section_of statement) is.placed)
-      ∙ ap (λ (n : PlainNetlist). follows_lines lines (section_of statement) && fits_port n statement) is.net
+      ap (λ b. b && fits_behind built.net statement) (place_is lines built.last (section_of statement) is.placed)
+      ∙ ap (λ (n : PlainNetlist). follows_lines lines (section_of statement) && fits_behind n statement) is.net
 
 -- the refusal of a line is that of reading it
 module _ (lines : List (List ℕ)) (built : Built) (is : IsBuilt lines built) (unended : has_ended built ≡ false) (line : List ℕ) where
@@ -231,7 +243,7 @@ module _ (lines : List (List ℕ)) (built : Built) (is : IsBuilt lines built) (u
       let same : after_statement built line statement ≡ next = cc in (
         ap (refusal_by lines line) says ∙ rw (stands, small) refl,
         subst (λ (b : Built). IsBuilt (lines ++ line ∷ []) b) same (built_next line statement says lines built is unended
-            (and_parts (follows_lines lines (section_of statement)) (fits_port (netlist_in lines) statement) stands).0),
+            (and_parts (follows_lines lines (section_of statement)) (fits_behind (netlist_in lines) statement) stands).0),
       )
   right_by statement true (Some quantity) next says allowed small read = absurd cc
   right_by statement false over next says allowed small read = absurd cc

@@ -5,18 +5,20 @@ use Rattle.std.specs.Str.{bytes_eq}
 use Rattle.pulse_ids.specs.Ids.{WireId}
 use Rattle.pulse_ids.specs.Names.{IsPortName}
 use Rattle.cell_netlist.specs.declared.kinds.Role.{Role}
+use Rattle.cell_netlist.specs.declared.kinds.Version as kinds
+use Rattle.cell_netlist.specs.declared.kinds.Version.TheVariants.{One, Two}
 use Rattle.cell_netlist.specs.declared.lines.Rail.{Rail}
+use Rattle.cell_netlist.specs.declared.lines.StateLine.{StateLine}
 use Rattle.cell_netlist.specs.declared.lines.Cell.{Cell}
 use Rattle.cell_netlist.specs.declared.lines.Cell.TheVariants.{La, Fa, Split, Droc}
-use Rattle.cell_netlist.specs.Text.{line_of, sign_word, role_word, bit_word, wire_word, output_word, rail_words, cell_words, name_words}
+use Rattle.cell_netlist.specs.Text.{line_of, sign_word, role_word, bit_word, wire_word, output_word, version_word, rail_words, cell_words, state_words, name_words}
 use Rattle.word_scan.specs.Decimals.{plain_decimal_of}
 use Rattle.word_scan.proofs.CallerLemmasDecimals.{IsFree, free_joined, plain_decimal_read}
 use Rattle.netlist_reader.specs.declared.statements.Statement.{Statement}
-use Rattle.netlist_reader.specs.declared.statements.Statement.TheVariants.{Version, Ports, Input, OneCell, Output, InputName, OutputName, End}
+use Rattle.netlist_reader.specs.declared.statements.Statement.TheVariants.{Version, Ports, Input, OneCell, Output, State, InputName, OutputName, End}
 use Rattle.netlist_reader.specs.Words.{after_space, name_in, sign_of, role_of, bit_of, wire_in, output_in}
-use Rattle.netlist_reader.specs.Statements.{ports_in, rail_in, named_in, three_in, droc_in, statement_by, statement_in}
-use Rattle.netlist_reader.proofs.WrittenWords.{word_read, word_passed, meaning_read, sign_plain, role_plain, bit_plain, number_plain, FitsOutput, output_plain, name_free, sign_read, role_read}
-use Rattle.netlist_reader.proofs.WrittenWords.{bit_read, wire_read, output_read}
+use Rattle.netlist_reader.specs.Statements.{ports_in, rail_in, state_in, named_in, three_in, droc_in, statement_by, statement_in}
+use Rattle.netlist_reader.proofs.WrittenWords.{word_read, word_passed, meaning_read, sign_plain, role_plain, bit_plain, number_plain, FitsOutput, output_plain, name_free, sign_read, role_read, bit_read, wire_read, output_read}
 
 -- words parted by one space
 abbrev pub spaced : List (List ℕ) → List ℕ
@@ -63,6 +65,12 @@ rail_read rail f =
     ∙ meaning_read (sign_of (sign_word rail.sign)) rail.sign _ (sign_read rail.sign)
     ∙ meaning_read (wire_in (wire_word rail.wire)) rail.wire _ (wire_read rail.wire f.wire)
 
+state_read : (state : StateLine) → state.latch < 2 ^ 32 → state.cell.number < 2 ^ 32 → state_in (spaced (decimal state.latch ∷ decimal state.cell.number ∷ [])) ≡ Some state
+state_read state f g =
+    word_read (decimal state.latch) (decimal state.cell.number) _ (number_plain state.latch f).spaces
+    ∙ meaning_read (plain_decimal_of (decimal state.latch)) state.latch _ (plain_decimal_read state.latch f)
+    ∙ meaning_read (plain_decimal_of (decimal state.cell.number)) state.cell.number _ (plain_decimal_read state.cell.number g)
+
 three_read : (a b c : WireId) → a.number < 2 ^ 32 → b.number < 2 ^ 32 → c.number < 2 ^ 32 → three_in (spaced (wire_word a ∷ wire_word b ∷ wire_word c ∷ [])) ≡ Some (a, b, c)
 three_read a b c f g h =
     word_read (wire_word a) (wire_word b ++ 32 ∷ wire_word c) _ (number_plain a.number f).spaces
@@ -89,8 +97,9 @@ pub record IsLineOf (words : List (List ℕ)) (statement : Statement) : Type 0 w
   pub says : statement_in (spaced words) ≡ Some statement
   pub feeds : IsFree 10 (spaced words)
 
-pub head_read : IsLineOf (codes "xsfq" ∷ codes "1" ∷ []) Version
-head_read = record { says = refl; feeds = spaced_free (codes "xsfq" ∷ codes "1" ∷ []) ((refl, (refl, (refl, (refl, tt)))), ((refl, tt), tt)) }
+pub head_read : (version : kinds.Version) → IsLineOf (codes "xsfq" ∷ version_word version ∷ []) (Version version)
+head_read One = record { says = refl; feeds = spaced_free (codes "xsfq" ∷ codes "1" ∷ []) ((refl, (refl, (refl, (refl, tt)))), ((refl, tt), tt)) }
+head_read Two = record { says = refl; feeds = spaced_free (codes "xsfq" ∷ codes "2" ∷ []) ((refl, (refl, (refl, (refl, tt)))), ((refl, tt), tt)) }
 
 pub end_read : IsLineOf (codes "end" ∷ []) End
 end_read = record { says = refl; feeds = (refl, (refl, (refl, tt))) }
@@ -115,6 +124,13 @@ output_line_read rail f = record {
       ∙ ap (option_map Output) (rail_read rail f);
   feeds = spaced_free (rail_words (codes "output") rail)
       ((refl, (refl, (refl, (refl, (refl, (refl, tt)))))), ((number_plain rail.port f.port).feeds, ((sign_plain rail.sign).feeds, ((number_plain rail.wire.number f.wire).feeds, tt))));
+}
+
+pub state_line_read : (state : StateLine) → state.latch < 2 ^ 32 → state.cell.number < 2 ^ 32 → IsLineOf (state_words state) (State state)
+state_line_read state f g = record {
+  says = word_read (codes "state") (spaced (decimal state.latch ∷ decimal state.cell.number ∷ [])) statement_by (refl, (refl, (refl, (refl, (refl, tt)))))
+      ∙ ap (option_map State) (state_read state f g);
+  feeds = spaced_free (state_words state) ((refl, (refl, (refl, (refl, (refl, tt))))), ((number_plain state.latch f).feeds, ((number_plain state.cell.number g).feeds, tt)));
 }
 
 abbrev la_of : WireId × WireId × WireId → Cell

@@ -5,15 +5,16 @@ use Rattle.std.specs.List.{flat_map}
 use Rattle.std.proofs.lemmas.Bool.{le-ltb, le-leb}
 use Rattle.std.proofs.lemmas.List.{map-append, length-append, take_all}
 use Rattle.pulse_ids.specs.Lists.{IsIn}
-use Rattle.cell_netlist.specs.Netlists.{PlainNetlist, IsNetlist, empty_netlist}
-use Rattle.cell_netlist.specs.Text.{line_of, rail_words, cell_words, name_words, netlist_words, text_of}
+use Rattle.cell_netlist.specs.declared.kinds.Version.{Version}
+use Rattle.cell_netlist.specs.Netlists.{PlainNetlist, IsNetlist, versioned}
+use Rattle.cell_netlist.specs.Text.{line_of, version_word, rail_words, cell_words, state_words, name_words, netlist_words, text_of}
 use Rattle.word_scan.specs.Lines.{lines_after, whole_lines}
 use Rattle.word_scan.specs.Reading.{read_on, text_read}
 use Rattle.word_scan.proofs.CallerLemmasDecimals.{IsFree}
 use Rattle.word_scan.proofs.CallerLemmasPieces.{take_joined}
 use Rattle.word_scan.proofs.CallerLemmasReading.{read_joined}
 use Rattle.netlist_reader.specs.declared.statements.Statement.TheVariants as statements
-use Rattle.netlist_reader.specs.declared.places.Section.TheVariants.{InputRails, Cells, OutputRails, InputNames, OutputNames, End}
+use Rattle.netlist_reader.specs.declared.places.Section.TheVariants.{InputRails, Cells, OutputRails, States, InputNames, OutputNames, End}
 use Rattle.netlist_reader.specs.declared.built.Built.{Built}
 use Rattle.netlist_reader.specs.declared.refusals.NetRefusal.{NetRefusal}
 use Rattle.netlist_reader.specs.declared.refusals.NetRefusal.TheVariants as refusals
@@ -27,8 +28,8 @@ use Rattle.netlist_reader.proofs.Lines.{passed_over}
 use Rattle.netlist_reader.proofs.Texts.{done, lines_read, built_by, early_is}
 use Rattle.netlist_reader.proofs.WrittenLines.{spaced, line_is, head_read, end_read, ports_line_read}
 use Rattle.netlist_reader.proofs.Sections.{Leads, all_added, one_read, free_more, section_read}
-use Rattle.netlist_reader.proofs.NetParts.{input_written, cell_written, output_written, input_name_written, output_name_written, inputs_added, cells_added, outputs_added, input_names_added}
-use Rattle.netlist_reader.proofs.NetParts.{output_names_added, input_names_in, output_names_in}
+use Rattle.netlist_reader.proofs.NetParts.{input_written, cell_written, output_written, states_written, states_added, input_name_written, output_name_written, inputs_added, cells_added, outputs_added, input_names_added, output_names_added, input_names_in, output_names_in}
+use Rattle.netlist_reader.proofs.RisingLatches.{StatesFit, state_now, state_next, states_fit_first}
 use Rattle.netlist_reader.proofs.RisingPorts.{InputsFit, OutputsFit, input_now, output_now, input_next, output_next, fit_first}
 
 -- lines that are written and taken
@@ -60,71 +61,84 @@ texts_passed (words ∷ lines) rest f =
     ∙ texts_passed lines rest (λ w h. f w (inr h))
 
 -- after the head
-head_leads : (inputs outputs : ℕ) → inputs ≤ 2 ^ 14 → outputs ≤ 2 ^ 14 → Leads ((codes "xsfq" ∷ codes "1" ∷ []) ∷ (codes "ports" ∷ decimal inputs ∷ decimal outputs ∷ []) ∷ []) 2
-    (empty_netlist inputs outputs)
-head_leads inputs outputs f g =
+head_leads : (version : Version) (inputs outputs : ℕ) → inputs ≤ 2 ^ 14 → outputs ≤ 2 ^ 14
+    → Leads ((codes "xsfq" ∷ version_word version ∷ []) ∷ (codes "ports" ∷ decimal inputs ∷ decimal outputs ∷ []) ∷ []) 2 (versioned version inputs outputs)
+head_leads version inputs outputs f g =
     let words : List (List ℕ) = codes "ports" ∷ decimal inputs ∷ decimal outputs ∷ [] in
     let ports = ports_line_read inputs outputs (omega arith) (omega arith) in
-    let b : Built = after_statement start (codes "xsfq 1") statements.Version in
+    let head = head_read version in
+    let first : List ℕ = spaced (codes "xsfq" ∷ version_word version ∷ []) in
+    let b : Built = after_statement start first (statements.Version version) in
+    let begun : line_read start first ≡ going b = one_read start (codes "xsfq" ∷ version_word version ∷ []) (statements.Version version) refl head refl refl refl in
     let few_inputs : ltb (2 ^ 14) inputs ≡ false = le-ltb _ _ f in
     let few_outputs : ltb (2 ^ 14) outputs ≡ false = le-ltb _ _ g in
     let small : limit_of (spaced words) (statements.Ports inputs outputs) ≡ None = rw (few_inputs, few_outputs) refl in
     record {
       built = after_statement b (spaced words) (statements.Ports inputs outputs);
-      reads = one_read b words (statements.Ports inputs outputs) refl ports small refl refl;
+      reads = ap (λ (r : Result Built NetRefusal). read_on line_read r (spaced words ∷ [])) begun ∙ one_read b words (statements.Ports inputs outputs) refl ports small refl refl;
       count = refl;
       stage = record { net_is = refl; ready = λ next p q. rw (le-leb 2 (rank next) p, le-leb 1 (rank next) (omega arith)) refl; lasts = refl };
       free = λ words h. elim h [
-        | inl e ↦ subst (λ (x : List (List ℕ)). IsFree 10 (spaced x)) e head_read.feeds
+        | inl e ↦ subst (λ (x : List (List ℕ)). IsFree 10 (spaced x)) e head.feeds
         | inr h2 ↦ elim h2 [ inl e ↦ subst (λ (x : List (List ℕ)). IsFree 10 (spaced x)) e ports.feeds | inr none ↦ absurd none ]
       ];
     }
 
 abbrev pub head_lines : PlainNetlist → List (List (List ℕ))
-head_lines net = (codes "xsfq" ∷ codes "1" ∷ []) ∷ (codes "ports" ∷ decimal net.inputs ∷ decimal net.outputs ∷ []) ∷ []
+head_lines net = (codes "xsfq" ∷ version_word net.version ∷ []) ∷ (codes "ports" ∷ decimal net.inputs ∷ decimal net.outputs ∷ []) ∷ []
 
 abbrev pub rail_lines : PlainNetlist → List (List (List ℕ))
 rail_lines net = ((head_lines net ++ map (rail_words (codes "input")) net.input_rails) ++ map cell_words net.cells) ++ map (rail_words (codes "output")) net.output_rails
 
 abbrev pub all_lines : PlainNetlist → List (List (List ℕ))
-all_lines net = (rail_lines net ++ map (name_words (codes "iname")) net.input_names) ++ map (name_words (codes "oname")) net.output_names
+all_lines net = ((rail_lines net ++ map state_words net.states) ++ map (name_words (codes "iname")) net.input_names) ++ map (name_words (codes "oname")) net.output_names
 
--- a netlist without its names
+-- a netlist without its names, and without its state lines
 abbrev unnamed : PlainNetlist → PlainNetlist
 unnamed net = record net { input_names = []; output_names = [] }
 
+abbrev stateless : PlainNetlist → PlainNetlist
+stateless net = record (unnamed net) { states = [] }
+
 -- what the lines up to `end` lead to
 module _ (net : PlainNetlist) (shape : IsNetlist net) (within : IsWithinLimits net) where
-  rails_lead : Leads (rail_lines net) 4 (unnamed net)
+  rails_lead : Leads (rail_lines net) 4 (stateless net)
   rails_lead =
-      let h = head_leads net.inputs net.outputs within.inputs within.outputs in
+      let h = head_leads net.version net.inputs net.outputs within.inputs within.outputs in
       let a = section_read (rail_words (codes "input")) (λ x. statements.Input x) InputRails (λ x. refl) (omega arith) (omega arith) (λ xs n. Unit) (λ x xs n f. refl) (λ x xs n f. tt)
       net.input_rails (head_lines net) 2 _ h (omega arith) (input_written net shape) tt in
       let b = section_read cell_words (λ x. statements.OneCell x) Cells (λ x. refl) (omega arith) (omega arith) (λ xs n. Unit) (λ x xs n f. refl) (λ x xs n f. tt)
       net.cells (head_lines net ++ map (rail_words (codes "input")) net.input_rails) 2 _ a (omega arith) (cell_written net shape) tt in
       let c = section_read (rail_words (codes "output")) (λ x. statements.Output x) OutputRails (λ x. refl) (omega arith) (omega arith) (λ xs n. Unit) (λ x xs n f. refl) (λ x xs n f. tt)
       net.output_rails ((head_lines net ++ map (rail_words (codes "input")) net.input_rails) ++ map cell_words net.cells) 3 _ b (omega arith) (output_written net shape) tt in
-      let empty : PlainNetlist = empty_netlist net.inputs net.outputs in
+      let empty : PlainNetlist = versioned net.version net.inputs net.outputs in
       let same = ap (λ (n : PlainNetlist). all_added (rail_words (codes "output")) (λ x. statements.Output x) net.output_rails (all_added cell_words (λ x. statements.OneCell x) net.cells n))
       (inputs_added net.input_rails empty)
       ∙ ap (λ (n : PlainNetlist). all_added (rail_words (codes "output")) (λ x. statements.Output x) net.output_rails n) (cells_added net.cells (record empty { input_rails = net.input_rails }))
       ∙ outputs_added net.output_rails (record empty { input_rails = net.input_rails; cells = net.cells }) in
       subst (λ (n : PlainNetlist). Leads (rail_lines net) 4 n) same c
 
-  names_lead : Leads (all_lines net) 6 net
+  states_lead : Leads (rail_lines net ++ map state_words net.states) 5 (unnamed net)
+  states_lead =
+      let a = section_read state_words (λ x. statements.State x) States (λ x. refl) (omega arith) (omega arith) StatesFit state_now state_next
+      net.states (rail_lines net) 4 (stateless net) rails_lead (omega arith) (states_written net.version net.states shape.states)
+      (states_fit_first net.version net.states (stateless net) shape.states refl refl) in
+      subst (λ (n : PlainNetlist). Leads (rail_lines net ++ map state_words net.states) 5 n) (states_added net.states (stateless net)) a
+
+  names_lead : Leads (all_lines net) 7 net
   names_lead =
       let half : PlainNetlist = record (unnamed net) { input_names = net.input_names } in
       let a = section_read (name_words (codes "iname")) (λ x. statements.InputName x.0) InputNames (λ x. refl) (omega arith) (omega arith) InputsFit input_now input_next
-      net.input_names (rail_lines net) 4 (unnamed net) rails_lead (omega arith) (input_name_written 0 net.inputs net.input_names shape.input_names shape.inputs)
+      net.input_names (rail_lines net ++ map state_words net.states) 5 (unnamed net) states_lead (omega arith) (input_name_written 0 net.inputs net.input_names shape.input_names shape.inputs)
       (fit_first net.inputs net.input_names shape.input_names) in
-      let first : Leads (rail_lines net ++ map (name_words (codes "iname")) net.input_names) 5 half =
-      subst (λ (n : PlainNetlist). Leads (rail_lines net ++ map (name_words (codes "iname")) net.input_names) 5 n)
+      let first : Leads ((rail_lines net ++ map state_words net.states) ++ map (name_words (codes "iname")) net.input_names) 6 half =
+      subst (λ (n : PlainNetlist). Leads ((rail_lines net ++ map state_words net.states) ++ map (name_words (codes "iname")) net.input_names) 6 n)
       (input_names_added net.input_names (unnamed net) (input_names_in 0 net.inputs net.input_names shape.input_names shape.inputs)) a in
       let b = section_read (name_words (codes "oname")) (λ x. statements.OutputName x.0) OutputNames (λ x. refl) (omega arith) (omega arith) OutputsFit output_now output_next
-      net.output_names (rail_lines net ++ map (name_words (codes "iname")) net.input_names) 5 half first (omega arith)
+      net.output_names ((rail_lines net ++ map state_words net.states) ++ map (name_words (codes "iname")) net.input_names) 6 half first (omega arith)
       (output_name_written 0 net.outputs net.output_names shape.output_names shape.outputs)
       (fit_first net.outputs net.output_names shape.output_names) in
-      subst (λ (n : PlainNetlist). Leads (all_lines net) 6 n) (output_names_added net.output_names half (output_names_in 0 net.outputs net.output_names shape.output_names shape.outputs)) b
+      subst (λ (n : PlainNetlist). Leads (all_lines net) 7 n) (output_names_added net.output_names half (output_names_in 0 net.outputs net.output_names shape.output_names shape.outputs)) b
 
 -- what all lines lead to
 record Ends (net : PlainNetlist) : Type 0 where

@@ -1,7 +1,7 @@
 -- What a reader keeps of the lines so far, and how each line changes it.
 use Rattle.std.specs.Prelude.{◌≡◌, ◌≤◌, ◌<◌, ℕ, ◌+◌, ◌++◌, ◌==◌, Bool, true, false, ◌&&◌, List, [], ◌∷◌, Option, Some, None, Result, Ok, Err, length, nat_le, if◌then◌else◌, ⊤}
 use Rattle.pulse_ids.specs.declared.quantities.Quantity.{Quantity}
-use Rattle.cell_netlist.specs.Netlists.{PlainNetlist, empty_netlist, most_lines}
+use Rattle.cell_netlist.specs.Netlists.{PlainNetlist, empty_netlist, versioned, most_lines}
 use Rattle.word_scan.specs.Reading.{read_on}
 use Rattle.netlist_reader.specs.declared.statements.Statement.{Statement}
 use Rattle.netlist_reader.specs.declared.statements.Statement.TheVariants as statements
@@ -13,7 +13,7 @@ use Rattle.netlist_reader.specs.declared.refusals.NetRefusal.TheVariants as refu
 use Rattle.netlist_reader.specs.Words.{name_in}
 use Rattle.netlist_reader.specs.Statements.{statement_in}
 use Rattle.netlist_reader.specs.Limits.{limit_of}
-use Rattle.netlist_reader.specs.Places.{rank, section_of, fits_port}
+use Rattle.netlist_reader.specs.Places.{rank, section_of, fits_behind}
 
 -- a line of a section may stand right behind one of the last section
 abbrev pub follows : Option Section → Section → Bool
@@ -33,11 +33,12 @@ inputs_refused refusal inputs said = inputs
 
 -- a netlist with what a line says
 abbrev pub with_statement : List ℕ → Statement → PlainNetlist → PlainNetlist
-with_statement line statements.Version net = net
-with_statement line (statements.Ports inputs outputs) net = empty_netlist inputs outputs
+with_statement line (statements.Version version) net = versioned version 0 0
+with_statement line (statements.Ports inputs outputs) net = versioned net.version inputs outputs
 with_statement line (statements.Input rail) net = record net { input_rails = net.input_rails ++ rail ∷ [] }
 with_statement line (statements.OneCell cell) net = record net { cells = net.cells ++ cell ∷ [] }
 with_statement line (statements.Output rail) net = record net { output_rails = net.output_rails ++ rail ∷ [] }
+with_statement line (statements.State state) net = record net { states = net.states ++ state ∷ [] }
 with_statement line (statements.InputName port) net = record net { input_names = net.input_names ++ (port, name_in line) ∷ [] }
 with_statement line (statements.OutputName port) net = record net { output_names = net.output_names ++ (port, name_in line) ∷ [] }
 with_statement line statements.End net = net
@@ -56,7 +57,7 @@ start = record { last = None; lines = 0; inputs = None; net = empty_netlist 0 0 
 
 -- a statement stands in its place
 abbrev pub allows : Built → Statement → Bool
-allows built statement = follows built.last (section_of statement) && fits_port built.net statement
+allows built statement = follows built.last (section_of statement) && fits_behind built.net statement
 
 abbrev pub after_statement : Built → List ℕ → Statement → Built
 after_statement built line statement = record {

@@ -5,15 +5,15 @@ ghost use Rattle.word_scan.specs.Lines.{HasNoFeed};
 ghost use Rattle.netlist_reader.specs.declared.statements.Statement.TheVariants as statements;
 ghost use Rattle.netlist_reader.specs.Statements.{statement_in};
 ghost use Rattle.netlist_reader.specs.Limits.{over_name, limit_of};
-ghost use Rattle.netlist_reader.specs.Places.{fits_port};
+ghost use Rattle.netlist_reader.specs.Places.{fits_behind};
 ghost use Rattle.netlist_reader.specs.Building.{with_statement, inputs_after, IsFew};
 
 use crate::limits::limit_of;
-use crate::places::{Section, fits_port, follows, section_of};
+use crate::places::{Section, fits_behind, follows, section_of};
 use crate::refusals::NetRefusal;
 use crate::statements::{Statement, statement_in};
 use crate::words::name_in;
-use cell_netlist::Netlist;
+use cell_netlist::{Netlist, StateLine};
 use pulse_ids::{Name, NoMemory};
 use std::alloc::Global;
 
@@ -40,7 +40,7 @@ fn inputs_after(inputs: Option<u32>, statement: Statement) -> Option<u32>
 fn name_input(alloc: Global, net: &mut Netlist, line: &[u8], port: u32) -> Result<(), NoMemory>
     requires plain { HasNoFeed line.now }
     requires said { statement_in line.now ≡ Some (statements.InputName port) }
-    requires fits { fits_port net.old (statements.InputName port) ≡ true }
+    requires fits { fits_behind net.old (statements.InputName port) ≡ true }
     requires short { over_name line.now ≡ None }
     ensures { OnOk result (net.new ≡ with_statement line.now (statements.InputName port) net.old) }
 {
@@ -52,7 +52,7 @@ fn name_input(alloc: Global, net: &mut Netlist, line: &[u8], port: u32) -> Resul
 fn name_output(alloc: Global, net: &mut Netlist, line: &[u8], port: u32) -> Result<(), NoMemory>
     requires plain { HasNoFeed line.now }
     requires said { statement_in line.now ≡ Some (statements.OutputName port) }
-    requires fits { fits_port net.old (statements.OutputName port) ≡ true }
+    requires fits { fits_behind net.old (statements.OutputName port) ≡ true }
     requires short { over_name line.now ≡ None }
     ensures { OnOk result (net.new ≡ with_statement line.now (statements.OutputName port) net.old) }
 {
@@ -60,18 +60,30 @@ fn name_output(alloc: Global, net: &mut Netlist, line: &[u8], port: u32) -> Resu
     net.name_output(port, name)
 }
 
+/// Adds a state line.
+fn add_state(net: &mut Netlist, line: &[u8], state: StateLine) -> Result<(), NoMemory>
+    requires fits { fits_behind net.old (statements.State state) ≡ true }
+    requires limit { limit_of line.now (statements.State state) ≡ None }
+    ensures { OnOk result (net.new ≡ with_statement line.now (statements.State state) net.old) }
+{
+    net.add_state(state)
+}
+
 /// Adds what a line says.
 fn add(alloc: Global, net: &mut Netlist, line: &[u8], statement: Statement) -> Result<(), NoMemory>
     requires few { IsFew net.old }
     requires plain { HasNoFeed line.now }
     requires said { statement_in line.now ≡ Some statement }
-    requires fits { fits_port net.old statement ≡ true }
+    requires fits { fits_behind net.old statement ≡ true }
     requires limits { limit_of line.now statement ≡ None }
     ensures { OnOk result (net.new ≡ with_statement line.now statement net.old) }
 {
     match statement {
+        Statement::Version(version) => {
+            *net = Netlist::versioned(alloc, version, 0, 0);
+        }
         Statement::Ports(inputs, outputs) => {
-            *net = Netlist::new(alloc, inputs, outputs);
+            *net = Netlist::versioned(alloc, net.version(), inputs, outputs);
         }
         Statement::Input(rail) => {
             net.add_input(rail)?;
@@ -82,13 +94,16 @@ fn add(alloc: Global, net: &mut Netlist, line: &[u8], statement: Statement) -> R
         Statement::Output(rail) => {
             net.add_output(rail)?;
         }
+        Statement::State(state) => {
+            add_state(net, line, state)?;
+        }
         Statement::InputName(port) => {
             name_input(alloc, net, line, port)?;
         }
         Statement::OutputName(port) => {
             name_output(alloc, net, line, port)?;
         }
-        Statement::Version | Statement::End => {}
+        Statement::End => {}
     }
     Ok(())
 }
@@ -125,7 +140,7 @@ impl Built {
     fn allows(&self, statement: Statement) -> bool
         ensures { result ≡ allows self.now statement }
     {
-        follows(self.last, section_of(statement)) && fits_port(&self.net, statement)
+        follows(self.last, section_of(statement)) && fits_behind(&self.net, statement)
     }
 
     /// Reads a further line.

@@ -1,7 +1,7 @@
 //! The limits that a line is judged against, from the left.
 
 ghost use Rattle.std.specs.Prelude.{◌≡◌};
-ghost use Rattle.netlist_reader.specs.Limits.{over, over_wire, over_output, over_cell, over_name, limit_of};
+ghost use Rattle.netlist_reader.specs.Limits.{over, over_wire, over_output, over_cell, over_latch, over_name, limit_of};
 
 use crate::statements::Statement;
 use crate::words::name_in;
@@ -51,6 +51,16 @@ fn over_cell(cell: Cell) -> Option<Quantity>
     }
 }
 
+fn over_latch(latch: u32) -> Option<Quantity>
+    ensures { result ≡ over_latch latch }
+{
+    if (latch as u64) < Quantity::Latches.greatest() {
+        None
+    } else {
+        Some(Quantity::Latches)
+    }
+}
+
 fn over_name(line: &[u8]) -> Option<Quantity>
     ensures { result ≡ over_name line.now }
 {
@@ -67,7 +77,8 @@ pub(crate) fn limit_of(line: &[u8], statement: Statement) -> Option<Quantity>
         }
         Statement::Input(rail) | Statement::Output(rail) => over_wire(rail.wire),
         Statement::OneCell(cell) => over_cell(cell),
+        Statement::State(state) => over_latch(state.latch),
         Statement::InputName(_) | Statement::OutputName(_) => over_name(line),
-        Statement::Version | Statement::End => None,
+        Statement::Version(_) | Statement::End => None,
     }
 }

@@ -2,11 +2,12 @@
 
 ghost use Rattle.std.specs.Prelude.{◌≡◌};
 ghost use Rattle.cell_netlist.specs.Names.{HasRisingPorts};
-ghost use Rattle.netlist_reader.specs.Places.{rank, section_of, is_above, fits_port};
+ghost use Rattle.cell_netlist.specs.States.{AreStatesOf};
+ghost use Rattle.netlist_reader.specs.Places.{rank, section_of, is_above, is_above_states, fits_state, fits_behind};
 ghost use Rattle.netlist_reader.specs.Building.{follows};
 
 use crate::statements::Statement;
-use cell_netlist::Netlist;
+use cell_netlist::{Netlist, StateLine, Version};
 use pulse_ids::Name;
 
 /// The sections of a text, in order: a line stands in that of what it says.
@@ -17,6 +18,7 @@ pub enum Section {
     InputRails,
     Cells,
     OutputRails,
+    States,
     InputNames,
     OutputNames,
     End,
@@ -32,9 +34,10 @@ pub(crate) fn rank(section: Section) -> u8
         Section::InputRails => 2,
         Section::Cells => 3,
         Section::OutputRails => 4,
-        Section::InputNames => 5,
-        Section::OutputNames => 6,
-        Section::End => 7,
+        Section::States => 5,
+        Section::InputNames => 6,
+        Section::OutputNames => 7,
+        Section::End => 8,
     }
 }
 
@@ -42,11 +45,12 @@ pub(crate) fn section_of(statement: Statement) -> Section
     ensures { result ≡ section_of statement }
 {
     match statement {
-        Statement::Version => Section::Version,
+        Statement::Version(_) => Section::Version,
         Statement::Ports(_, _) => Section::Ports,
         Statement::Input(_) => Section::InputRails,
         Statement::OneCell(_) => Section::Cells,
         Statement::Output(_) => Section::OutputRails,
+        Statement::State(_) => Section::States,
         Statement::InputName(_) => Section::InputNames,
         Statement::OutputName(_) => Section::OutputNames,
         Statement::End => Section::End,
@@ -75,12 +79,37 @@ fn is_above(port: u32, names: &[(u32, Name)]) -> bool
     }
 }
 
-/// Whether the port that a statement names is in range and above all that are named on its side.
-pub(crate) fn fits_port(net: &Netlist, statement: Statement) -> bool
-    ensures { result ≡ fits_port net.now statement }
+/// Whether a latch is above that of every state line.
+fn is_above_states(version: Version, latch: u32, lines: &[StateLine]) -> bool
+    requires { AreStatesOf version lines.now }
+    ensures { result ≡ is_above_states latch lines.now }
+{
+    match lines.last() {
+        None => true,
+        Some(last) => last.latch < latch,
+    }
+}
+
+/// Whether a state line of this latch fits behind those of a netlist, which is of version two.
+fn fits_state(net: &Netlist, latch: u32) -> bool
+    ensures { result ≡ fits_state net.now latch }
+{
+    let _ = net.wires();
+    let version = net.version();
+    match version {
+        Version::One => false,
+        Version::Two => is_above_states(version, latch, net.state_lines()),
+    }
+}
+
+/// Whether what a statement says fits behind the lines so far: a state line stands in version two, and its latch is
+/// above those before; a named port is in range, and above all that are named on its side.
+pub(crate) fn fits_behind(net: &Netlist, statement: Statement) -> bool
+    ensures { result ≡ fits_behind net.now statement }
 {
     let _ = net.wires();
     match statement {
+        Statement::State(state) => fits_state(net, state.latch),
         Statement::InputName(port) => port < net.inputs() && is_above(port, net.input_names()),
         Statement::OutputName(port) => port < net.outputs() && is_above(port, net.output_names()),
         _ => true,

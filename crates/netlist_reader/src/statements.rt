@@ -1,18 +1,18 @@
 //! What a line says.
 
 ghost use Rattle.std.specs.Prelude.{◌≡◌};
-ghost use Rattle.netlist_reader.specs.Statements.{ports_in, rail_in, named_in, three_in, droc_in, cell_in, statement_by, statement_in};
+ghost use Rattle.netlist_reader.specs.Statements.{ports_in, rail_in, state_in, named_in, three_in, droc_in, cell_in, statement_by, statement_in};
 
 use crate::words::{bit_of, output_in, parted, role_of, sign_of, wire_in};
-use cell_netlist::{Cell, Rail};
-use pulse_ids::WireId;
+use cell_netlist::{Cell, Rail, StateLine, Version};
+use pulse_ids::{CellId, Ident, WireId};
 use word_scan::plain_decimal;
 
 /// What a line says. The name in a line of a name stands in the line itself.
 #[derive(Clone, Copy, Debug, PartialEq, Eq)]
 pub enum Statement {
     /// The version of the text.
-    Version,
+    Version(Version),
     /// The numbers of input and output ports.
     Ports(u32, u32),
     /// An input rail.
@@ -21,6 +21,8 @@ pub enum Statement {
     OneCell(Cell),
     /// An output rail.
     Output(Rail),
+    /// A state line.
+    State(StateLine),
     /// The input port that is named.
     InputName(u32),
     /// The output port that is named.
@@ -47,6 +49,18 @@ fn rail_in(line: &[u8]) -> Option<Rail>
     let sign = sign_of(sign_word)?;
     let wire = wire_in(wire_word)?;
     Some(Rail { port, sign, wire })
+}
+
+fn state_in(line: &[u8]) -> Option<StateLine>
+    ensures { result ≡ state_in line.now }
+{
+    let (latch, cell) = parted(line)?;
+    let latch = plain_decimal(latch)?;
+    let cell = plain_decimal(cell)?;
+    Some(StateLine {
+        latch,
+        cell: CellId::new(cell),
+    })
 }
 
 fn named_in(line: &[u8]) -> Option<u32>
@@ -124,6 +138,9 @@ fn statement_by(word: &[u8], rest: &[u8]) -> Option<Statement>
     if word == b"output".as_slice() {
         return Some(Statement::Output(rail_in(rest)?));
     }
+    if word == b"state".as_slice() {
+        return Some(Statement::State(state_in(rest)?));
+    }
     if word == b"iname".as_slice() {
         return Some(Statement::InputName(named_in(rest)?));
     }
@@ -138,7 +155,10 @@ pub(crate) fn statement_in(line: &[u8]) -> Option<Statement>
     ensures { result ≡ statement_in line.now }
 {
     if line == b"xsfq 1".as_slice() {
-        return Some(Statement::Version);
+        return Some(Statement::Version(Version::One));
+    }
+    if line == b"xsfq 2".as_slice() {
+        return Some(Statement::Version(Version::Two));
     }
     if line == b"end".as_slice() {
         return Some(Statement::End);

@@ -1,15 +1,17 @@
 //! Lines: words parted by one space and ended by LF.
 
-ghost use Rattle.std.specs.Prelude.{◌∷◌, ◌<◌, map, length, IsFalse};
+ghost use Rattle.std.specs.Prelude.{◌∷◌, [], ◌<◌, codes, map, length, IsFalse};
 ghost use Rattle.std.specs.List.{flat_map};
 ghost use Rattle.byte_ports.specs.Writing.{WritesText};
-ghost use Rattle.cell_netlist.specs.Text.{cell_words, line_of, name_words, rail_words};
+ghost use Rattle.cell_netlist.specs.Text.{cell_words, line_of, name_words, rail_words, state_words, version_word as version_text};
 ghost use Rattle.netlist_writer.specs.Texts.{spaced, word_text};
 
-use crate::words::{Word, bit_word, output_word, role_word, sign_word, wire_word, write_word};
+use crate::words::{
+    Word, bit_word, output_word, role_word, sign_word, version_word, wire_word, write_word,
+};
 use byte_ports::{Failed, Sink, write_all};
-use cell_netlist::{Cell, Rail};
-use pulse_ids::Name;
+use cell_netlist::{Cell, Rail, StateLine, Version};
+use pulse_ids::{Ident, Name};
 
 fn write_spaced<K: Sink>(out: &mut K, word: Word<'_>) -> Result<(), Failed>
     ensures written { WritesText (K.taken out.old) (K.taken out.new) (K.faults out.old) (K.faults out.new) result (spaced word.entry) }
@@ -42,6 +44,15 @@ pub(crate) fn write_line<K: Sink>(
     write_all(out, first)?;
     write_words(out, words)?;
     write_all(out, b"\n")
+}
+
+/// The line of a version.
+pub(crate) fn write_version<K: Sink>(out: &mut K, version: Version) -> Result<(), Failed>
+    ensures written { WritesText (K.taken out.old) (K.taken out.new) (K.faults out.old) (K.faults out.new) result (line_of (codes "xsfq" ∷ version_text version ∷ [])) }
+    ensures unflushed { IsFalse (K.flushed out.new) }
+{
+    let words = [version_word(version)];
+    write_line(out, b"xsfq", &words)
 }
 
 /// The line of a rail of the inputs' or the outputs' side.
@@ -97,6 +108,15 @@ pub(crate) fn write_cell<K: Sink>(out: &mut K, cell: Cell) -> Result<(), Failed>
             write_line(out, b"droc", &words)
         }
     }
+}
+
+/// The line of a latch and its cell.
+pub(crate) fn write_state<K: Sink>(out: &mut K, state: StateLine) -> Result<(), Failed>
+    ensures written { WritesText (K.taken out.old) (K.taken out.new) (K.faults out.old) (K.faults out.new) result (line_of (state_words state)) }
+    ensures unflushed { IsFalse (K.flushed out.old) → IsFalse (K.flushed out.new) }
+{
+    let words = [Word::Number(state.latch), Word::Number(state.cell.number())];
+    write_line(out, b"state", &words)
 }
 
 /// The line of a port and its name on the inputs' or the outputs' side.

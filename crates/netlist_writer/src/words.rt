@@ -2,11 +2,11 @@
 
 ghost use Rattle.std.specs.Prelude.{◌≡◌, IsFalse, decimal};
 ghost use Rattle.byte_ports.specs.Writing.{WritesText};
-ghost use Rattle.cell_netlist.specs.Text.{bit_word as bit_text, output_word as output_text, role_word as role_text, sign_word as sign_text};
+ghost use Rattle.cell_netlist.specs.Text.{bit_word as bit_text, output_word as output_text, role_word as role_text, sign_word as sign_text, version_word as version_text};
 ghost use Rattle.netlist_writer.specs.Texts.{word_text};
 
 use byte_ports::{Failed, Sink, write_all};
-use cell_netlist::Role;
+use cell_netlist::{Role, Version};
 use itoa::Buffer;
 use pulse_ids::{Ident, Sign, WireId};
 
@@ -15,6 +15,15 @@ use pulse_ids::{Ident, Sign, WireId};
 pub(crate) enum Word<'a> {
     Text(&'a [u8]),
     Number(u32),
+}
+
+pub(crate) fn version_word(version: Version) -> Word<'static>
+    ensures { word_text result ≡ version_text version }
+{
+    match version {
+        Version::One => Word::Text(b"1"),
+        Version::Two => Word::Text(b"2"),
+    }
 }
 
 pub(crate) fn sign_word(sign: Sign) -> Word<'static>

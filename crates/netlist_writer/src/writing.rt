@@ -4,12 +4,12 @@ ghost use Rattle.std.specs.Prelude.{IsFalse};
 ghost use Rattle.std.specs.List.{flat_map};
 ghost use Rattle.byte_ports.specs.Writing.{WritesText};
 ghost use Rattle.cell_netlist.specs.Text.{text_of};
-ghost use Rattle.netlist_writer.specs.Texts.{cell_line, circuit_text, head_text, name_line, names_text, rail_line};
+ghost use Rattle.netlist_writer.specs.Texts.{cell_line, circuit_text, head_text, later_text, name_line, names_text, rail_line, state_line};
 
-use crate::lines::{write_cell, write_line, write_name, write_rail};
+use crate::lines::{write_cell, write_line, write_name, write_rail, write_state, write_version};
 use crate::words::Word;
 use byte_ports::{Failed, Sink};
-use cell_netlist::{Cell, Netlist, Rail};
+use cell_netlist::{Cell, Netlist, Rail, StateLine};
 use pulse_ids::Name;
 
 fn write_rails<K: Sink>(out: &mut K, side: &[u8], rails: &[Rail]) -> Result<(), Failed>
@@ -32,6 +32,16 @@ fn write_cells<K: Sink>(out: &mut K, cells: &[Cell]) -> Result<(), Failed>
     Ok(())
 }
 
+fn write_states<K: Sink>(out: &mut K, states: &[StateLine]) -> Result<(), Failed>
+    ensures written { WritesText (K.taken out.old) (K.taken out.new) (K.faults out.old) (K.faults out.new) result (flat_map state_line states.now) }
+    ensures unflushed { IsFalse (K.flushed out.old) → IsFalse (K.flushed out.new) }
+{
+    for state in states {
+        write_state(out, *state)?;
+    }
+    Ok(())
+}
+
 fn write_names<K: Sink>(out: &mut K, side: &[u8], names: &[(u32, Name)]) -> Result<(), Failed>
     ensures written { WritesText (K.taken out.old) (K.taken out.new) (K.faults out.old) (K.faults out.new) result (flat_map (name_line side.now) names.now) }
     ensures unflushed { IsFalse (K.flushed out.old) → IsFalse (K.flushed out.new) }
@@ -47,7 +57,7 @@ fn write_head<K: Sink>(net: &Netlist, out: &mut K) -> Result<(), Failed>
     ensures written { WritesText (K.taken out.old) (K.taken out.new) (K.faults out.old) (K.faults out.new) result (head_text net.now) }
     ensures unflushed { IsFalse (K.flushed out.new) }
 {
-    write_line(out, b"xsfq", &[Word::Text(b"1")])?;
+    write_version(out, net.version())?;
     write_line(
         out,
         b"ports",
@@ -74,7 +84,17 @@ fn write_both_names<K: Sink>(net: &Netlist, out: &mut K) -> Result<(), Failed>
     write_names(out, b"oname", net.output_names())
 }
 
-/// Writes the one text of a netlist: its ports, input rails, cells, output rails and names, and its last line.
+/// The lines behind those of rails and cells, but for the last.
+fn write_later<K: Sink>(net: &Netlist, out: &mut K) -> Result<(), Failed>
+    ensures written { WritesText (K.taken out.old) (K.taken out.new) (K.faults out.old) (K.faults out.new) result (later_text net.now) }
+    ensures unflushed { IsFalse (K.flushed out.old) → IsFalse (K.flushed out.new) }
+{
+    write_states(out, net.state_lines())?;
+    write_both_names(net, out)
+}
+
+/// Writes the one text of a netlist: its version and ports, input rails, cells, output rails, state lines and names, and
+/// its last line.
 /// It takes no memory. Each word and each space is a piece of its own, so a slow sink is best buffered. The sink
 /// isn't flushed.
 ///
@@ -85,6 +105,6 @@ pub fn write_netlist<K: Sink>(net: &Netlist, out: &mut K) -> Result<(), Failed>
 {
     write_head(net, out)?;
     write_circuit(net, out)?;
-    write_both_names(net, out)?;
+    write_later(net, out)?;
     write_line(out, b"end", &[])
 }

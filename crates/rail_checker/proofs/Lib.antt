@@ -9,3 +9,4 @@ pub mod LinkTables
 pub mod RootTable
 pub mod RoleTests
 pub mod RailKeys
+pub mod StateMarks

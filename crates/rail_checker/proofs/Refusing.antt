@@ -8,7 +8,7 @@ use Rattle.pulse_ids.specs.Ids.{numbered}
 use Rattle.pulse_ids.specs.declared.ids.Id.{Id}
 use Rattle.cell_netlist.specs.declared.unsound.RailLine.TheVariants.{Input, Output}
 use Rattle.cell_netlist.specs.declared.unsound.Unsound.{Unsound}
-use Rattle.cell_netlist.specs.declared.unsound.Unsound.TheVariants.{WireUndriven, WireTwiceDriven, WireUnread, WireTwiceRead, PortRange, RailTwice, Loop, LooseDroc, WrongPreload}
+use Rattle.cell_netlist.specs.declared.unsound.Unsound.TheVariants.{WireUndriven, WireTwiceDriven, WireUnread, WireTwiceRead, PortRange, RailTwice, Loop, LooseDroc, WrongPreload, LooseState}
 use Rattle.pulse_ids.specs.Lists.{occurrences}
 use Rattle.cell_netlist.specs.Netlists.{PlainNetlist, driven, read}
 use Rattle.cell_netlist.specs.Sound.{Breaks, rule_of, number_in, ComesBefore, IsFirstUnsound}
@@ -76,6 +76,12 @@ preload_at (WrongPreload id) e = refl
 preload_at (PortRange (Input id)) e = absurd (omega arith)
 preload_at (PortRange (Output id)) e = absurd (omega arith)
 preload_at other e = absurd (omega arith)
+
+pub state_at : IsOfRule 11 (λ n. LooseState n)
+state_at (LooseState k) e = refl
+state_at (PortRange (Input id)) e = absurd (omega arith)
+state_at (PortRange (Output id)) e = absurd (omega arith)
+state_at other e = absurd (omega arith)
 
 pub none_clear : (net : PlainNetlist) → IsClear net 0
 none_clear net (PortRange (Input id)) breaks le = omega arith

@@ -6,3 +6,4 @@ pub mod Rails
 pub mod DrivingCells
 pub mod Needs
 pub mod Tables
+pub mod States

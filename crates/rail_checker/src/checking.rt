@@ -11,6 +11,7 @@ use crate::driving_cells::driving_cells;
 use crate::grounding::{grounding, loop_at};
 use crate::rails::rails_unsound;
 use crate::roles::roles_unsound;
+use crate::states::states_unsound;
 use cell_netlist::{Netlist, SoundNet, Unsound, one_refusal};
 use pulse_ids::NoMemory;
 use std::alloc::Global;
@@ -69,7 +70,7 @@ fn first_unsound(alloc: Global, net: &Netlist) -> Result<Option<Unsound>, NoMemo
 
 /// The first refusal of a netlist, or none where it breaks no rule.
 fn judged(alloc: Global, net: &Netlist) -> Result<Option<Unsound>, NoMemory>
-    ensures { IfOk result (λ found. IsJudged net.now 10 found) }
+    ensures { IfOk result (λ found. IsJudged net.now 11 found) }
 {
     if let Some(unsound) = wires_unsound(alloc, net)? {
         return Ok(Some(unsound));
@@ -77,10 +78,13 @@ fn judged(alloc: Global, net: &Netlist) -> Result<Option<Unsound>, NoMemory>
     if let Some(unsound) = rails_unsound(alloc, net)? {
         return Ok(Some(unsound));
     }
-    cells_unsound(alloc, net)
+    if let Some(unsound) = cells_unsound(alloc, net)? {
+        return Ok(Some(unsound));
+    }
+    states_unsound(alloc, net)
 }
 
-/// The first refusal by the rules on cells, or none where all rules hold.
+/// The first refusal by the rules on cells, or none where they hold.
 fn cells_unsound(alloc: Global, net: &Netlist) -> Result<Option<Unsound>, NoMemory>
     requires { IsClear net.now 7 }
     ensures { IfOk result (λ found. IsJudged net.now 10 found) }

@@ -14,6 +14,7 @@ mod repeats;
 mod roles;
 mod roots;
 mod scans;
+mod states;
 
 pub use checking::{Refused, check, check_wires};
 pub use roots::wire_roots;

@@ -70,4 +70,4 @@ module _ (built : PlainBuilt) (place latch : ℕ) (rest : List (ℕ × ℕ)) (li
           ∙ follows_last h.labels 1 (rails_in built + latch) label f (number_of_wires before.net) (omega (arith, h.one_each)) (omega (arith, h.one_each)) in
           let u = finish_tracked built label place latch rest finishes.middle init finishes.next literal t.0 back once holds within t.1 link in
           subst (λ (d : PlainDraft). IsTracked built label d.pending d) (sym finishes.finished)
-          (record { stocked = u.stocked; inputs = u.inputs; gates = u.gates; backs = u.backs; fronts = u.fronts; waits = u.waits; constants = u.constants; outputs = u.outputs })
+          (record { stocked = u.stocked; inputs = u.inputs; gates = u.gates; backs = u.backs; fronts = u.fronts; waits = u.waits; constants = u.constants; outputs = u.outputs; states = u.states })

@@ -20,6 +20,8 @@ use Rattle.wire_ledgers.proofs.CallerLemmasOnRanges.{in_range}
 use Rattle.rail_mapper.specs.Drafts.{PlainDraft}
 use Rattle.rail_mapper.specs.Labels.{IsLabelledIfUsed}
 use Rattle.rail_mapper.specs.Tracks.{FitsGate, IsPaired, IsJoined, IsWaiting, FitsConst, IsTracked}
+use Rattle.rail_mapper.specs.StateLines.{IsStateOf}
+use Rattle.rail_mapper.proofs.TrackingStates.{more_state}
 use Rattle.rail_mapper.proofs.Tracking.{split_fits, same_const, place_parts, more_paired, more_joined, more_waiting}
 
 -- the wires of a tree whose root carries a rail, where its new wires carry it
@@ -144,4 +146,6 @@ module _ (built : PlainBuilt) (label : ℕ → ℕ) (before after : PlainDraft) 
           | inr k ↦ const_of preload feed q n k
         ];
     outputs = λ rail m. h.outputs rail (subst (λ (net : PlainNetlist). IsIn rail net.output_rails) c.added m);
+    states = λ line m. subst (λ (net : PlainNetlist). IsStateOf built label before.pending net.cells line) (sym c.added)
+        (more_state built label before.pending before.net.cells more line (h.states line (subst (λ (net : PlainNetlist). IsIn line net.states) c.added m)));
   }

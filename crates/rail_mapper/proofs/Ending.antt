@@ -4,15 +4,17 @@ use Rattle.pulse_ids.specs.Ids.{WireId}
 use Rattle.cell_netlist.specs.declared.kinds.Role.TheVariants.{Front, Back, Const}
 use Rattle.cell_netlist.specs.declared.lines.Rail.{Rail}
 use Rattle.cell_netlist.specs.declared.lines.Cell.{Cell}
+use Rattle.cell_netlist.specs.declared.lines.StateLine.{StateLine}
 use Rattle.cell_netlist.specs.declared.lines.Cell.TheVariants.{La, Fa, Split, Droc}
 use Rattle.pulse_ids.specs.Lists.{IsIn}
 use Rattle.cell_netlist.specs.Netlists.{outs}
-use Rattle.cell_netlist.specs.Sound.{IsDrocOf, HasQ, IsFrontTo, IsBackFrom, FitsRole, IsSound}
+use Rattle.cell_netlist.specs.Sound.{IsDrocOf, HasQ, IsFrontTo, IsBackFrom, FitsRole, NamesBack, IsNamedBefore, IsSound}
 use Rattle.pulse_ids.proofs.CallerLemmas.{IsIn-place, place_of}
 use Rattle.graph_build.specs.Built.{PlainBuilt}
 use Rattle.wire_ledgers.specs.Ledgers.{IsLedger}
 use Rattle.rail_mapper.specs.Drafts.{PlainDraft}
 use Rattle.rail_mapper.specs.Labels.{FitsLabels, IsLabelled}
+use Rattle.rail_mapper.specs.StateLines.{IsLinked, IsStateOf}
 use Rattle.rail_mapper.specs.Tracks.{HasFront, IsPaired, IsJoined, IsTracked}
 use Rattle.wire_ledgers.proofs.CallerLemmasOnEnds.{closed_sound}
 use Rattle.rail_mapper.proofs.NetRuns.{same_cell, cells_few}
@@ -112,11 +114,22 @@ module _ (built : PlainBuilt) (label : ℕ → ℕ) (draft : PlainDraft) (h : Is
           let same = same_cell outs draft.net.cells link f.front g.front (cells_few draft.net ledger link) f.among g.among (q_drives f.front link f.q) (q_drives g.front link joined) in
           not_not front back (preload_is f.front g.front front (not preload) f.feed g.feed same f.role g.role ∙ ap not d.1)
 
-  -- with rails of ports in range, none of them twice
+  -- each state line names a back, whose feed carries the line's latch
+  pub state_linked : (line : StateLine) → IsIn line draft.net.states → IsLinked built label [] draft.net.cells line
+  state_linked line m = by (h.states line m)
+    where
+      by : IsStateOf built label [] draft.net.cells line → IsLinked built label [] draft.net.cells line
+      by (inl waits) = absurd waits
+      by (inr its) = its
+
+  state_back : (line : StateLine) → IsIn line draft.net.states → NamesBack draft.net line
+  state_back line m = let its = state_linked line m in (Droc Back its.preload its.feed its.q its.n, its.back, tt)
+
+  -- with rails of ports in range, none of them twice, and no cell named twice
   pub tracked_sound : IsLedger draft.net [] [] → ((rail : Rail) → IsIn rail draft.net.input_rails → rail.port < draft.net.inputs)
       → ((rail : Rail) → IsIn rail draft.net.output_rails → rail.port < draft.net.outputs)
       → ((first later : ℕ) (rail other : Rail) → first < later → slice_get draft.net.input_rails first ≡ Some rail → slice_get draft.net.input_rails later ≡ Some other
       → rail.port ≡ other.port → rail.sign ≡ other.sign → ⊥)
-      → IsSound draft.net
-  tracked_sound ledger ins outs_in twice =
-      closed_sound draft.net ledger (record { input_ports = ins; output_ports = outs_in; none_twice = twice; roles = cell_fits; preloads = pairs_complement ledger })
+      → ((k : ℕ) (line : StateLine) → slice_get draft.net.states k ≡ Some line → IsNamedBefore draft.net k line → ⊥) → IsSound draft.net
+  tracked_sound ledger ins outs_in twice states_apart =
+      closed_sound draft.net ledger (record { input_ports = ins; output_ports = outs_in; none_twice = twice; roles = cell_fits; preloads = pairs_complement ledger; states = record { backs = state_back; apart = states_apart } })

@@ -9,12 +9,13 @@ use Rattle.cell_netlist.specs.declared.lines.Cell.{Cell}
 use Rattle.cell_netlist.specs.Netlists.{outs, number_of_wires, Splits}
 use Rattle.wire_ledgers.proofs.CallerLemmasOnRanges.{in_range, range_has}
 use Rattle.droc_pairs.specs.Pairs.{wires_for, begun_back}
+use Rattle.splitter_trees.specs.Spreading.{with_cells}
 use Rattle.droc_pairs.proofs.CallerLemmas.{begun_drives}
 use Rattle.rail_mapper.specs.Drafts.{PlainDraft, readers_of, Grows, gate_cell, with_cell}
 use Rattle.rail_mapper.specs.FanOuts.{AreFannedOut}
 use Rattle.rail_mapper.specs.Stages.{GrowsIf, grown, bare, begun_draft, HasBegun}
 use Rattle.rail_mapper.proofs.FanOuts.{cell_fanned_out, IsBare}
-use Rattle.rail_mapper.proofs.FanOutCells.{new_bare, spread_fanned_out, spread_bare}
+use Rattle.rail_mapper.proofs.FanOutCells.{new_bare, spread_fanned_out, spread_bare, kept_fanned_out}
 
 pub grow_fanned_out : (rail root : ℕ) (before after : PlainDraft) → Grows rail root before after → IsBare before.net root → AreFannedOut before.net → AreFannedOut after.net
 grow_fanned_out rail root before after grow is h = spread_fanned_out before.net after.net root (readers_of before rail) grow.leaves grow.spread is h
@@ -73,8 +74,9 @@ module _ (latch : ℕ) (init : Bool) (pos neg : ℕ) (before after : PlainDraft)
 
   back_bare : (wire : ℕ) → next ≤ wire → wire < next + (wires_for q + wires_for n) → IsBare begun.net wire
   back_bare wire low high =
-      new_bare before.net back (λ from to s. s) wire
-      (subst (λ (l : List ℕ). IsIn wire l) (sym (begun_drives next init q n)) (range_has next (wires_for q + wires_for n) wire low high)) low
+      let its = new_bare before.net back (λ from to s. s) wire
+      (subst (λ (l : List ℕ). IsIn wire l) (sym (begun_drives next init q n)) (range_has next (wires_for q + wires_for n) wire low high)) low in
+      record { there = its.there; top = its.top; end = its.end }
 
   pub first_bare : 1 ≤ readers_of begun pos → IsBare begun.net next
   first_bare some = let one : wires_for q ≡ 1 = ap wires_for (lt-ltb 0 (readers_of before pos) some) in back_bare next (omega arith) (omega arith)
@@ -93,5 +95,5 @@ module _ (latch : ℕ) (init : Bool) (pos neg : ℕ) (before after : PlainDraft)
       (λ has e. let two : wires_for q ≡ 1 = ap wires_for (lt-ltb 0 (readers_of before pos) has) in absurd (omega arith))
 
   pub back_fanned_out : AreFannedOut before.net → AreFannedOut begun.net
-  back_fanned_out h = cell_fanned_out before.net back (λ from to s. s)
-      (λ wire m. (in_range next (wires_for q + wires_for n) wire (subst (λ (l : List ℕ). IsIn wire l) (begun_drives next init q n) m)).0) h
+  back_fanned_out h = kept_fanned_out (with_cells before.net (back ∷ [])) begun.net refl refl (cell_fanned_out before.net back (λ from to s. s)
+      (λ wire m. (in_range next (wires_for q + wires_for n) wire (subst (λ (l : List ℕ). IsIn wire l) (begun_drives next init q n) m)).0) h)

@@ -6,6 +6,10 @@ use Rattle.pulse_ids.specs.declared.literals.Sign.{Sign}
 use Rattle.pulse_ids.specs.declared.literals.Sign.TheVariants.{Pos, Neg}
 use Rattle.cell_netlist.specs.declared.kinds.Ask.{Ask}
 use Rattle.pulse_ids.specs.Lists.{IsIn, occurrences}
+use Rattle.pulse_ids.proofs.CallerLemmas.{IsIn-append, IsIn-right}
+use Rattle.cell_netlist.specs.declared.kinds.Version.{Version}
+use Rattle.cell_netlist.specs.declared.kinds.Version.TheVariants.{One, Two}
+use Rattle.cell_netlist.specs.declared.lines.StateLine.{StateLine}
 use Rattle.cell_netlist.specs.Netlists.{PlainNetlist, number_of_wires}
 use Rattle.aig_core.specs.declared.nodes.Node.{Node}
 use Rattle.aig_core.specs.Graphs.{nodes_of}
@@ -19,13 +23,15 @@ use Rattle.rail_mapper.specs.Drafts.{PlainDraft, readers_of, open_in, Grows, wit
 use Rattle.rail_mapper.specs.Labels.{rail_number, sign_in, IsLabelledIfUsed, rails_in}
 use Rattle.rail_mapper.specs.Plans.{fan_in, rail_uses, left_from}
 use Rattle.rail_mapper.specs.InputStages.{held_if}
-use Rattle.rail_mapper.specs.Stages.{Follows, IsStage, IsHeld, GrowsIf, grown, bare}
+use Rattle.rail_mapper.specs.Stages.{Follows, IsStage, IsHeld, GrowsIf, grown, bare, begun_draft}
+use Rattle.rail_mapper.specs.StateLines.{line_if, lines_of}
 use Rattle.rail_mapper.specs.Tracks.{IsBegunFor, IsTracked}
 use Rattle.rail_mapper.proofs.DraftSteps.{grow_step}
 use Rattle.rail_mapper.proofs.DraftLedgers.{begin_step, back_number, back_wires}
 use Rattle.wire_ledgers.proofs.CallerLemmas.{same_open}
 use Rattle.rail_mapper.proofs.StageSteps.{node_of, next_uses, follows_front, follows_last}
-use Rattle.rail_mapper.proofs.Tracking.{grow_tracked}
+use Rattle.rail_mapper.proofs.BackPlaces.{line_pair}
+use Rattle.rail_mapper.proofs.Tracking.{grow_tracked, same_const}
 use Rattle.rail_mapper.proofs.TrackingBacks.{begin_tracked}
 use Rattle.aig_core.specs.declared.nodes.Node.TheVariants as nodes
 
@@ -136,10 +142,11 @@ abbrev pub label_if : Bool → ℕ → List ℕ
 label_if asked rail = if asked then rail ∷ [] else []
 
 abbrev pub begun : PlainDraft → ℕ → Bool → Bool → Bool → PlainDraft
-begun draft latch init q n = record draft {
-  net = with_cells draft.net (begun_back (number_of_wires draft.net) init q n ∷ []);
-  pending = draft.pending ++ (let half : ℕ × ℕ = (length draft.net.cells, latch) in half) ∷ [];
-}
+begun draft latch init q n = begun_draft draft latch init q n
+
+-- a ledger doesn't tell of state lines
+other_lines : (net : PlainNetlist) (states : List StateLine) (open_wires debts : List ℕ) → IsLedger net open_wires debts → IsLedger (record net { states = states }) open_wires debts
+other_lines net states open_wires debts h = record { in_order = h.in_order; once = h.once; inside = h.inside; rise = h.rise }
 
 held_wires : (q n : Bool) (next pos neg : ℕ) → map (λ (p : ℕ × ℕ). p.0) (held_if q next pos ++ held_if n (next + wires_for q) neg) ≡ back_wires next q n
 held_wires true true next pos neg = refl
@@ -167,7 +174,8 @@ pub held_begun : (built : PlainBuilt) (demand : PlainDemand) (ask : Ask) (node l
     ++ held_if n (number_of_wires draft.net + wires_for q) (rail_number node Neg)) (begun draft latch init q n)
 held_begun built demand ask node latch draft init q n h stands first asked = record {
   is_draft = record {
-    ledger = same_debts (with_cells draft.net (begun_back (number_of_wires draft.net) init q n ∷ []))
+    ledger = other_lines (with_cells draft.net (begun_back (number_of_wires draft.net) init q n ∷ [])) (draft.net.states ++ line_if draft.net.version latch (length draft.net.cells)) _ _
+        (same_debts (with_cells draft.net (begun_back (number_of_wires draft.net) init q n ∷ []))
         (open_in draft ++ map (λ (p : ℕ × ℕ). p.0) (held_if q (number_of_wires draft.net) (rail_number node Pos)
         ++ held_if n (number_of_wires draft.net + wires_for q) (rail_number node Neg))) (0 ∷ map (λ (p : ℕ × ℕ). 0) draft.pending) (map (λ (p : ℕ × ℕ). 0) (draft.pending
         ++ (let half : ℕ × ℕ = (length draft.net.cells, latch) in half) ∷ []))
@@ -183,7 +191,7 @@ held_begun built demand ask node latch draft init q n h stands first asked = rec
         let d = ap (occurrences wire) (held_wires q n (number_of_wires draft.net) (rail_number node Pos) (rail_number node Neg)) in omega arith))
         (λ wire.
         let a = ap (occurrences wire) (map-append (λ (p : ℕ × ℕ). 0) draft.pending ((let half : ℕ × ℕ = (length draft.net.cells, latch) in half) ∷ [])) in
-        let b = occurrences-append wire (map (λ (p : ℕ × ℕ). 0) draft.pending) (0 ∷ []) in omega arith);
+        let b = occurrences-append wire (map (λ (p : ℕ × ℕ). 0) draft.pending) (0 ∷ []) in omega arith));
     exact = h.is_draft.exact;
   };
   is_at = record { spread = h.is_at.spread; bare = h.is_at.bare };
@@ -233,10 +241,30 @@ held_begun built demand ask node latch draft init q n h stands first asked = rec
         → IsBegunFor built label latch init (asked_output q (number_of_wires draft.net)) (asked_output n (number_of_wires draft.net + wires_for q))
     begun_for label f = record { node = node; stands = stands; first = first; q_is = its_q label q n (wire_label label f); n_is = its_n label q n (wire_label label f) }
 
+    one_line : (version : Version) (line : StateLine) → IsIn line (line_if version latch (length draft.net.cells))
+        → IsIn line (lines_of version ((let half : ℕ × ℕ = (length draft.net.cells, latch) in half) ∷ []))
+    one_line One line m = m
+    one_line Two line m = m
+
     moved : (label : ℕ → ℕ) → IsTracked built label (draft.pending ++ (let half : ℕ × ℕ = (length draft.net.cells, latch) in half) ∷ [])
         (with_cell draft (begun_back (number_of_wires draft.net) init q n))
         → IsTracked built label (draft.pending ++ (let half : ℕ × ℕ = (length draft.net.cells, latch) in half) ∷ []) (begun draft latch init q n)
-    moved label t = record { stocked = t.stocked; inputs = t.inputs; gates = t.gates; backs = t.backs; fronts = t.fronts; waits = t.waits; constants = t.constants; outputs = t.outputs }
+    moved label t = record {
+      stocked = t.stocked;
+      inputs = t.inputs;
+      gates = t.gates;
+      backs = t.backs;
+      fronts = t.fronts;
+      waits = t.waits;
+      constants = λ preload feed q_on n_on m. same_const label (with_cells draft.net (begun_back (number_of_wires draft.net) init q n ∷ [])) (begun draft latch init q n).net (λ cell k d. k)
+          preload feed q_on n_on (t.constants preload feed q_on n_on m);
+      outputs = t.outputs;
+      states = λ line m. elim (IsIn-append line draft.net.states (line_if draft.net.version latch (length draft.net.cells)) m) [
+        | inl k ↦ t.states line k
+        | inr k ↦ inl (IsIn-right (line.cell.number, line.latch) draft.pending ((let half : ℕ × ℕ = (length draft.net.cells, latch) in half) ∷ [])
+            (line_pair draft.net.version ((let half : ℕ × ℕ = (length draft.net.cells, latch) in half) ∷ []) line (one_line draft.net.version line k)))
+      ];
+    }
 
     in_hand : (label : ℕ → ℕ) (q n : Bool) → IsLabelledIfUsed label (asked_output q (number_of_wires draft.net)) (rail_number node Pos)
         → IsLabelledIfUsed label (asked_output n (number_of_wires draft.net + wires_for q)) (rail_number node Neg)

@@ -8,6 +8,7 @@ use Rattle.pulse_ids.specs.Lists.{occurrences}
 use Rattle.pulse_ids.specs.declared.literals.Sign.{Sign}
 use Rattle.pulse_ids.specs.declared.literals.Sign.TheVariants.{Pos, Neg}
 use Rattle.cell_netlist.specs.declared.kinds.Ask.{Ask}
+use Rattle.cell_netlist.specs.declared.kinds.Version.{Version}
 use Rattle.cell_netlist.specs.declared.lines.Rail.{Rail}
 use Rattle.cell_netlist.specs.Asked.{rail_of}
 use Rattle.cell_netlist.specs.Netlists.{PlainNetlist, number_of_wires}
@@ -79,10 +80,10 @@ module _ (built : PlainBuilt) (demand : PlainDemand) (ask : Ask) where
   abbrev hand : ℕ → List (ℕ × ℕ)
   hand count = held_from all_uses 0 (range_with_len 2 count)
 
-  pub input_one : (count port : ℕ) (sign : Sign) (before after : PlainDraft) → rail_number (1 + port) sign ≡ 2 + count → slice_get (nodes_of built.graph) (1 + port) ≡ Some (Input port)
+  pub input_one : {version : Version} (count port : ℕ) (sign : Sign) (before after : PlainDraft) → rail_number (1 + port) sign ≡ 2 + count → slice_get (nodes_of built.graph) (1 + port) ≡ Some (Input port)
       → count < 2 ^ 16
-      → InputsAt built demand ask count before → AddsInput port sign before after → InputsAt built demand ask (count + 1) after
-  input_one count port sign before after number stands few h (unread none e) = subst (InputsAt built demand ask (count + 1)) (sym e) (record {
+      → InputsAt built demand ask version count before → AddsInput port sign before after → InputsAt built demand ask version (count + 1) after
+  input_one {version = version} count port sign before after number stands few h (unread none e) = subst (InputsAt built demand ask version (count + 1)) (sym e) (record {
     held = subst (λ (l : List (ℕ × ℕ)). IsHeld built demand ask 0 l before) (sym same_hand) h.held;
     wires = h.wires ∙ sym (ap (λ (l : List (ℕ × ℕ)). length l) same_hand);
     each = h.each;
@@ -99,7 +100,7 @@ module _ (built : PlainBuilt) (demand : PlainDemand) (ask : Ask) where
 
       same_hand : hand (count + 1) ≡ hand count
       same_hand = held_next all_uses count ∙ ap (λ (b : Bool). hand count ++ held_if b (length (hand count)) (2 + count)) not_read ∙ append-nil (hand count)
-  input_one count port sign before after number stands few h (added some e) = subst (InputsAt built demand ask (count + 1)) (sym e) (record {
+  input_one {version = version} count port sign before after number stands few h (added some e) = subst (InputsAt built demand ask version (count + 1)) (sym e) (record {
     held = subst (λ (l : List (ℕ × ℕ)). IsHeld built demand ask 0 l (with_input before (next_rail before port sign))) (sym longer)
         (held_added built demand ask 0 (hand count) before port (1 + port) sign h.held (ap (λ (n : PlainNetlist). n.cells) h.frame) stands);
     wires = number_after ∙ sym (ap (λ (l : List (ℕ × ℕ)). length l) longer ∙ length-append (hand count) _ ∙ ap (λ (k : ℕ). k + 1) (sym h.wires));
@@ -208,7 +209,7 @@ module _ (built : PlainBuilt) (demand : PlainDemand) (ask : Ask) where
       h.held.is_draft.ledger.inside wire (omega arith)
 
   -- The constant, where it is to be read, and then the trees of inputs.
-  pub const_one : (before after : PlainDraft) → built.graph.inputs ≤ 2 ^ 14 → InputsAt built demand ask (2 * built.graph.inputs) before → AddsConstant before after
+  pub const_one : {version : Version} (before after : PlainDraft) → built.graph.inputs ≤ 2 ^ 14 → InputsAt built demand ask version (2 * built.graph.inputs) before → AddsConstant before after
       → TreesAt built demand ask 0 0 after
   const_one before after few h adds = record {
     held = subst (λ (k : ℕ). IsHeld built demand ask 2 (held_from all_uses 0 (range_with_len 2 k)) after) (let z : 2 * built.graph.inputs ≡ 2 * built.graph.inputs - 0 = omega arith in z) (by adds);
@@ -235,6 +236,6 @@ module _ (built : PlainBuilt) (demand : PlainDemand) (ask : Ask) where
       roomy (constant c) = constant_room before after (2 ^ 16) c (omega (arith, h.held.counts_size)) (less_room before (2 ^ 16 + 1) (2 ^ 17 - 2 * built.graph.inputs) (omega arith) h.room)
 
   -- what adding the constant wants
-  pub const_ready : (draft : PlainDraft) → built.graph.inputs ≤ 2 ^ 14 → InputsAt built demand ask (2 * built.graph.inputs) draft
+  pub const_ready : {version : Version} (draft : PlainDraft) → built.graph.inputs ≤ 2 ^ 14 → InputsAt built demand ask version (2 * built.graph.inputs) draft
       → (2 ≤ length draft.stock) × (2 ≤ length draft.counts) × HasRoom 8 draft
   const_ready draft few h = (omega (arith, h.held.stock_size), omega (arith, h.held.counts_size), less_room draft 8 (2 ^ 17 - 2 * built.graph.inputs) (omega arith) h.room)

@@ -57,6 +57,7 @@ held_added built demand ask rail hand draft port node sign h none stands = recor
           waits = t.0.waits;
           constants = λ preload feed q n m. same_const label draft.net (with_input draft (next_rail draft port sign)).net (λ cell k d. k) preload feed q n (t.0.constants preload feed q n m);
           outputs = t.0.outputs;
+          states = t.0.states;
         },
         λ wire its m. elim (IsIn-append {X = ℕ × ℕ} (wire, its) hand ((number_of_wires draft.net, rail_number node sign) ∷ []) m) [ inl k ↦ t.1 wire its k | inr k ↦ last label new wire its k ],
       );

@@ -1,18 +1,21 @@
 -- Backs with their trees, one latch after the other.
-use Rattle.std.proofs.Common.{◌≡◌, ◌≤◌, ◌<◌, ◌+◌, ◌*◌, ◌-◌, ◌||◌, ◌⊎◌, inl, inr, ℕ, Bool, true, false, Some, List, [], ◌∷◌, ◌++◌, length, slice_get, get_or, nat_lt, ap, sym, subst, ◌∙◌, refl, arith, append-nil, if◌then◌else◌}
+use Rattle.std.proofs.Common.{◌≡◌, ◌≤◌, ◌<◌, ◌+◌, ◌*◌, ◌-◌, ◌||◌, ◌⊎◌, inl, inr, ℕ, Bool, true, false, Some, List, [], ◌∷◌, ◌++◌, map, length, slice_get, get_or, nat_lt, ap, sym, subst, ◌∙◌, refl, arith, append-nil, if◌then◌else◌}
 use Rattle.std.specs.List.{flat_map, range_with_len}
 use Rattle.std.proofs.lemmas.Bool.{or_left, or_right, lt-ltb}
 use Rattle.std.proofs.lemmas.Grind.{flat_map-append}
 use Rattle.std.proofs.lemmas.List.{map-append, length-append}
 use Rattle.pulse_ids.specs.Ids.{numbered}
 use Rattle.pulse_ids.specs.Lists.{IsIn, occurrences}
-use Rattle.pulse_ids.proofs.CallerLemmas.{IsIn-append}
+use Rattle.pulse_ids.proofs.CallerLemmas.{IsIn-append, IsIn-map, IsIn-from_flat_map}
 use Rattle.pulse_ids.specs.declared.literals.Sign.{Sign}
 use Rattle.pulse_ids.specs.declared.literals.Sign.TheVariants.{Pos, Neg}
 use Rattle.cell_netlist.specs.declared.kinds.Ask.{Ask}
+use Rattle.cell_netlist.specs.declared.kinds.Version.{Version}
+use Rattle.cell_netlist.specs.declared.lines.StateLine.{StateLine}
 use Rattle.cell_netlist.specs.declared.kinds.Role.TheVariants.{Back}
 use Rattle.cell_netlist.specs.declared.lines.Cell.TheVariants.{Droc}
-use Rattle.cell_netlist.specs.Netlists.{number_of_wires}
+use Rattle.cell_netlist.specs.Netlists.{PlainNetlist, number_of_wires}
+use Rattle.cell_netlist.specs.States.{IsAboveStates}
 use Rattle.aig_core.specs.declared.nodes.Node.TheVariants.{Latch}
 use Rattle.aig_core.specs.Graphs.{nodes_of, count_of}
 use Rattle.graph_build.specs.Built.{PlainBuilt}
@@ -26,6 +29,9 @@ use Rattle.rail_mapper.specs.Labels.{rail_number, sign_in, rails_in}
 use Rattle.rail_mapper.specs.LatchStages.{latches_needed, AreApart, latches_of, BacksAt}
 use Rattle.rail_mapper.specs.Plans.{uses}
 use Rattle.rail_mapper.specs.Stages.{IsHeld, IsStage, IsPlan, GrowsIf, begun_draft, grown, bare, BeginsLatch, unread, started}
+use Rattle.rail_mapper.specs.StateLines.{line_if, lines_of, backs_from}
+use Rattle.wire_ledgers.proofs.CallerLemmasOnRanges.{in_range}
+use Rattle.rail_mapper.proofs.BackPlaces.{backs-append, backs_stay, no_back, lines_next, line_pair}
 use Rattle.rail_mapper.proofs.DraftLedgers.{back_number}
 use Rattle.rail_mapper.proofs.HeldSteps.{held_begun, held_stage, stage_held, held_grown_if, held_skipped, no_latch_reads}
 use Rattle.rail_mapper.proofs.InputStageLemmas.{grows_pending}
@@ -49,6 +55,24 @@ apart-behind (pair ∷ pairs) place latch below h = (
     not_last other (inl e) = let low = below pair.0 pair.1 (inl refl) in let same : place ≡ pair.0 = ap (λ (p : ℕ × ℕ). p.0) e in absurd (omega arith)
     not_last other (inr m) = absurd m
 
+-- spreading keeps the state lines and the backs
+record KeepsBacks (before after : PlainDraft) : Type 0 where
+  states : after.net.states ≡ before.net.states
+  version : after.net.version ≡ before.net.version
+  backs : backs_from 0 after.net.cells ≡ backs_from 0 before.net.cells
+
+grows_kept : (rail root : ℕ) (before after : PlainDraft) → GrowsIf rail root before after → KeepsBacks before after
+grows_kept rail root before after (grown some grow) = record {
+  states = ap (λ (net : PlainNetlist). net.states) grow.spread.added;
+  version = ap (λ (net : PlainNetlist). net.version) grow.spread.added;
+  backs = ap (λ (net : PlainNetlist). backs_from 0 net.cells) grow.spread.added ∙ backs_stay before.net.cells grow.spread.cells (no_back grow.spread.cells grow.spread.spreads.all_split);
+}
+grows_kept rail root before after (bare none e) = record {
+  states = ap (λ (d : PlainDraft). d.net.states) e;
+  version = ap (λ (d : PlainDraft). d.net.version) e;
+  backs = ap (λ (d : PlainDraft). backs_from 0 d.net.cells) e;
+}
+
 -- what spreading takes of the room, where the rail is read
 grows_room : (rail root more : ℕ) (before after : PlainDraft) → GrowsIf rail root before after → HasRoom more before → HasRoom (more + 2 * wires_for (nat_lt 0 (readers_of before rail))) after
 grows_room rail root more before after (grown some grow) room =
@@ -67,6 +91,25 @@ needed_next built demand latch =
     ap (flat_map (pick built demand)) (range-append 0 latch 1) ∙ flat_map-append (pick built demand) (range_with_len 0 latch) (range_with_len (0 + latch) 1)
     ∙ (let z : 0 + latch ≡ latch = omega arith in ap (λ (k : ℕ). flat_map (pick built demand) (range_with_len 0 latch) ++ (pick built demand k ++ [])) z)
     ∙ ap (λ (l : List ℕ). latches_needed built demand latch ++ l) (append-nil (pick built demand latch))
+
+-- the latches of state lines are below those that are still to come
+picked : (needed : Bool) (latch other : ℕ) → IsIn other (if needed then latch ∷ [] else []) → latch ≡ other
+picked true latch other (inl e) = e
+picked true latch other (inr m) = absurd m
+picked false latch other m = absurd m
+
+needed_below : (built : PlainBuilt) (demand : PlainDemand) (latch other : ℕ) → IsIn other (latches_needed built demand latch) → other < latch
+needed_below built demand latch other m =
+    let from = IsIn-from_flat_map (pick built demand) other (range_with_len 0 latch) m in
+    let range = in_range 0 latch from.0 from.1 in
+    let same = picked (is_needed demand (1 + built.graph.inputs + from.0) Pos || is_needed demand (1 + built.graph.inputs + from.0) Neg) from.0 other from.2 in
+    omega (arith, range.1, same)
+
+pub states_below : (built : PlainBuilt) (demand : PlainDemand) (ask : Ask) (latch : ℕ) (draft : PlainDraft) → BacksAt built demand ask latch draft → IsAboveStates latch draft.net.states
+states_below built demand ask latch draft h line m =
+    let pair = line_pair draft.net.version draft.pending line (subst (λ (l : List StateLine). IsIn line l) h.lines m) in
+    let among : IsIn line.latch (latches_of draft.pending) = IsIn-map (λ (p : ℕ × ℕ). p.1) (line.cell.number, line.latch) draft.pending pair in
+    needed_below built demand latch line.latch (subst (λ (l : List ℕ). IsIn line.latch l) h.waiting among)
 
 module _ (built : PlainBuilt) (demand : PlainDemand) (ask : Ask) (plan : IsPlan built demand ask) (latch : ℕ)
     (stands : slice_get (nodes_of built.graph) (1 + built.graph.inputs + latch) ≡ Some (Latch latch)) (inside : 1 + built.graph.inputs + latch < count_of built.graph) where
@@ -124,6 +167,8 @@ module _ (built : PlainBuilt) (demand : PlainDemand) (ask : Ask) (plan : IsPlan 
         ∙ ap (λ (b : Bool). latches_needed built demand latch ++ (if b then latch ∷ [] else [])) (not_needed Neg (sym (h.stage.planned neg (omega arith)) ∙ no_neg))
         ∙ append-nil (latches_needed built demand latch));
     apart = h.apart;
+    lines = h.lines;
+    places = h.places;
   })
     where
       past_pos : IsHeld built demand ask neg [] before
@@ -136,8 +181,22 @@ module _ (built : PlainBuilt) (demand : PlainDemand) (ask : Ask) (plan : IsPlan 
         ∙ ap (λ (l : List ℕ). l ++ latch ∷ []) h.waiting
         ∙ sym (needed_next built demand latch ∙ ap (λ (b : Bool). latches_needed built demand latch ++ (if b then latch ∷ [] else [])) (one_needed b.some));
     apart = subst AreApart (sym pending_after) (apart-behind before.pending (length before.net.cells) latch places h.apart);
+    lines = second.states ∙ first_kept.states ∙ ap (λ (l : List StateLine). l ++ line_if before.net.version latch (length before.net.cells)) h.lines
+        ∙ lines_next before.net.version before.pending (length before.net.cells) latch
+        ∙ ap (lines_of before.net.version) (sym pending_after) ∙ ap (λ (v : Version). lines_of v after.pending) (sym (second.version ∙ first_kept.version));
+    places = second.backs ∙ first_kept.backs
+        ∙ backs-append 0 before.net.cells (begun_back (number_of_wires before.net) init (q_of before) (n_of before) ∷ [])
+        ∙ (let z : 0 + length before.net.cells ≡ length before.net.cells = omega arith in ap (λ (k : ℕ). backs_from 0 before.net.cells ++ k ∷ []) z)
+        ∙ ap (λ (l : List ℕ). l ++ length before.net.cells ∷ []) h.places
+        ∙ sym (ap (map (λ (p : ℕ × ℕ). p.0)) pending_after ∙ map-append (λ (p : ℕ × ℕ). p.0) before.pending ((let half : ℕ × ℕ = (length before.net.cells, latch) in half) ∷ []));
   }
     where
+      first_kept : KeepsBacks (begun_draft before latch init (q_of before) (n_of before)) b.middle
+      first_kept = grows_kept pos (root_of before) (begun_draft before latch init (q_of before) (n_of before)) b.middle b.first
+
+      second : KeepsBacks b.middle after
+      second = grows_kept neg (root_of before + wires_for (q_of before)) b.middle after b.second
+
       asked : (1 ≤ readers_of before pos) ⊎ (1 ≤ readers_of before neg) → (q_of before ≡ true) ⊎ (n_of before ≡ true)
       asked (inl k) = inl (lt-so (readers_of before pos) k)
       asked (inr k) = inr (lt-so (readers_of before neg) k)

@@ -47,6 +47,8 @@ pub mod StageSteps
 pub mod StageTurns
 pub mod Starting
 pub mod Stocks
+pub mod BackPlaces
+pub mod TrackingStates
 pub mod Tracking
 pub mod TrackingBacks
 pub mod TrackingFronts

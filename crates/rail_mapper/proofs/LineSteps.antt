@@ -5,6 +5,7 @@ use Rattle.std.proofs.lemmas.Grind.{flat_map-append}
 use Rattle.std.proofs.lemmas.List.{length-append}
 use Rattle.pulse_ids.specs.Ids.{NodeLit, WireId, numbered}
 use Rattle.pulse_ids.specs.Lists.{IsIn}
+use Rattle.pulse_ids.proofs.CallerLemmas.{IsIn-left, IsIn-right}
 use Rattle.pulse_ids.specs.declared.literals.Sign.{Sign}
 use Rattle.cell_netlist.specs.declared.kinds.Gate.{Gate}
 use Rattle.cell_netlist.specs.declared.kinds.Role.{Role}
@@ -23,12 +24,14 @@ use Rattle.rail_mapper.specs.InputStages.{HasConstant}
 use Rattle.rail_mapper.specs.Lines.{AddsLines, KeepsCells}
 use Rattle.rail_mapper.specs.OutputStages.{PutsOutputs}
 use Rattle.rail_mapper.specs.Stages.{GrowsIf, grown, bare, begun_draft, BeginsLatch, unread, started}
+use Rattle.rail_mapper.specs.StateLines.{backs_from}
+use Rattle.rail_mapper.proofs.BackPlaces.{backs_stay, backs_fed}
 use Rattle.rail_mapper.proofs.ConstantFanOuts.{constant_fanned_out}
 use Rattle.rail_mapper.proofs.FanOuts.{IsBare}
 use Rattle.rail_mapper.proofs.FanOutCells.{front_fanned_out}
 use Rattle.rail_mapper.proofs.FanOutSteps.{grow_fanned_out, gate_line_fanned_out, gate_bare, first_bare, second_bare, back_fanned_out}
 use Rattle.rail_mapper.proofs.InputStageLemmas.{grows_pending}
-use Rattle.rail_mapper.proofs.PortSteps.{ports_same, ports_on, cells_keep, take_keeps, inputs_same, inputs_on, output_keeps}
+use Rattle.rail_mapper.proofs.PortSteps.{ports_same, ports_on, cells_keep, begun_keeps, take_keeps, inputs_same, inputs_on, output_keeps}
 use Rattle.rail_mapper.proofs.ShelfLemmas.{replicate_last}
 use Rattle.cell_netlist.specs.declared.kinds.Gate.TheVariants as gates
 
@@ -39,6 +42,7 @@ lines_same draft = record {
   gates_added = sym (append-nil (flat_map gate_in draft.net.cells));
   roles_added = sym (append-nil (flat_map role_in draft.net.cells));
   fanned_out = λ h. h;
+  states_kept = λ none. record { states = refl; backs = refl };
 }
 
 pub lines_on : (gates more : List Gate) (roles rest : List Role) (one two three : PlainDraft) → AddsLines gates roles one two → AddsLines more rest two three
@@ -48,6 +52,9 @@ lines_on gates more roles rest one two three a b = record {
   gates_added = b.gates_added ∙ ap (λ (l : List Gate). l ++ more) a.gates_added ∙ append_assoc (flat_map gate_in one.net.cells) gates more;
   roles_added = b.roles_added ∙ ap (λ (l : List Role). l ++ rest) a.roles_added ∙ append_assoc (flat_map role_in one.net.cells) roles rest;
   fanned_out = λ h. b.fanned_out (a.fanned_out h);
+  states_kept = λ none.
+      let first = a.states_kept (λ m. none (IsIn-left Back roles rest m)) in
+      let second = b.states_kept (λ m. none (IsIn-right Back roles rest m)) in record { states = second.states ∙ first.states; backs = second.backs ∙ first.backs };
 }
 
 -- cells behind the others
@@ -58,6 +65,10 @@ cells_lines before after cells e fan = record {
   gates_added = ap (λ (net : PlainNetlist). flat_map gate_in net.cells) e ∙ flat_map-append gate_in before.net.cells cells;
   roles_added = ap (λ (net : PlainNetlist). flat_map role_in net.cells) e ∙ flat_map-append role_in before.net.cells cells;
   fanned_out = fan;
+  states_kept = λ none. record {
+    states = ap (λ (net : PlainNetlist). net.states) e;
+    backs = ap (λ (net : PlainNetlist). backs_from 0 net.cells) e ∙ backs_stay before.net.cells cells none;
+  };
 }
 
 -- splitters are no gates and have no role
@@ -84,6 +95,7 @@ take_lines rail wire before after take = record {
   gates_added = ap (λ (d : PlainDraft). flat_map gate_in d.net.cells) take.taken ∙ sym (append-nil (flat_map gate_in before.net.cells));
   roles_added = ap (λ (d : PlainDraft). flat_map role_in d.net.cells) take.taken ∙ sym (append-nil (flat_map role_in before.net.cells));
   fanned_out = λ h. subst (λ (d : PlainDraft). AreFannedOut d.net) (sym take.taken) h;
+  states_kept = λ none. record { states = ap (λ (d : PlainDraft). d.net.states) take.taken; backs = ap (λ (d : PlainDraft). backs_from 0 d.net.cells) take.taken };
 }
 
 grow_lines : (rail root : ℕ) (before after : PlainDraft) → Grows rail root before after → IsBare before.net root → AddsLines [] [] before after
@@ -148,9 +160,15 @@ backs_lines latch init pos neg first before after apart h (started b) =
     (grow_if_lines neg _ b.middle after b.second (second_bare latch init pos neg before after b apart))))
   where
     begun_lines : AddsLines [] (Back ∷ []) before (begun_draft before latch init (nat_lt 0 (readers_of before pos)) (nat_lt 0 (readers_of before neg)))
-    begun_lines = cells_lines before (begun_draft before latch init (nat_lt 0 (readers_of before pos)) (nat_lt 0 (readers_of before neg)))
-        (begun_back (number_of_wires before.net) init (nat_lt 0 (readers_of before pos)) (nat_lt 0 (readers_of before neg)) ∷ []) refl
-        (back_fanned_out latch init pos neg before after b apart)
+    begun_lines =
+        let back = begun_back (number_of_wires before.net) init (nat_lt 0 (readers_of before pos)) (nat_lt 0 (readers_of before neg)) in
+        record {
+          ports = begun_keeps before latch init (nat_lt 0 (readers_of before pos)) (nat_lt 0 (readers_of before neg));
+          gates_added = flat_map-append gate_in before.net.cells (back ∷ []);
+          roles_added = flat_map-append role_in before.net.cells (back ∷ []);
+          fanned_out = back_fanned_out latch init pos neg before after b apart;
+          states_kept = λ none. absurd (none (inl refl));
+        }
 
     one_more : length after.pending ≡ length before.pending + 1
     one_more =
@@ -183,6 +201,12 @@ front_lines rail init before after f =
           ∙ (fed_lines f.waits.place (numbered (number_of_wires f.finishes.middle.net)) (f.finishes.middle.net.cells ++ front ∷ [])).1
           ∙ flat_map-append role_in f.finishes.middle.net.cells (front ∷ []);
       fanned_out = λ h. subst AreFannedOut (sym same) (front_fanned_out f.finishes.middle.net f.waits.place init f.finishes.next h);
+      states_kept = λ none. record {
+        states = ap (λ (net : PlainNetlist). net.states) same;
+        backs = ap (λ (net : PlainNetlist). backs_from 0 net.cells) same
+            ∙ backs_fed 0 f.waits.place (numbered (number_of_wires f.finishes.middle.net)) (f.finishes.middle.net.cells ++ front ∷ [])
+            ∙ backs_stay f.finishes.middle.net.cells (front ∷ []) none;
+      };
     })
   where
     front : Cell
@@ -193,10 +217,10 @@ front_lines rail init before after f =
 
 -- output rails
 pub cells_same : (draft : PlainDraft) → KeepsCells draft draft
-cells_same draft = record { ports = inputs_same draft; cells = refl }
+cells_same draft = record { ports = inputs_same draft; cells = refl; states = refl }
 
 pub cells_on : (one two three : PlainDraft) → KeepsCells one two → KeepsCells two three → KeepsCells one three
-cells_on one two three a b = record { ports = inputs_on one two three a.ports b.ports; cells = b.cells ∙ a.cells }
+cells_on one two three a b = record { ports = inputs_on one two three a.ports b.ports; cells = b.cells ∙ a.cells; states = b.states ∙ a.states }
 
 pub puts_cells : (literal : NodeLit) (port : ℕ) (signs : List Sign) (before after : PlainDraft) → PutsOutputs literal port signs before after → KeepsCells before after
 puts_cells literal port [] before after e = subst (λ (d : PlainDraft). KeepsCells before d) (sym e) (cells_same before)
@@ -204,4 +228,5 @@ puts_cells literal port (sign ∷ signs) before after (middle, out, more) =
     cells_on before middle after (record {
       ports = output_keeps _ port sign before middle out;
       cells = ap (λ (d : PlainDraft). d.net.cells) out.added ∙ ap (λ (d : PlainDraft). d.net.cells) out.taken.taken;
+      states = ap (λ (d : PlainDraft). d.net.states) out.added ∙ ap (λ (d : PlainDraft). d.net.states) out.taken.taken;
     }) (puts_cells literal port signs middle after more)

@@ -33,6 +33,7 @@ named_tracked built label pending draft inputs outputs t = record {
   waits = t.waits;
   constants = λ preload feed q n m. same_const label draft.net (with_names draft.net inputs outputs) (λ cell k d. k) preload feed q n (t.constants preload feed q n m);
   outputs = t.outputs;
+  states = t.states;
 }
 
 named_closing : (built : PlainBuilt) (left : List ℕ) (draft : PlainDraft) (inputs outputs : Names) → IsClosing built left draft → IsClosing built left (named_draft draft inputs outputs)

@@ -1,5 +1,5 @@
 -- The netlist's runs follow those of the machine.
-use Rattle.std.proofs.Common.{◌≡◌, ◌≤◌, ◌<◌, ◌+◌, inl, inr, ℕ, zero, suc, Bool, true, not, Option, Some, None, List, [], ◌∷◌, map, slice_get, ap, sym, subst, ◌∙◌, arith}
+use Rattle.std.proofs.Common.{◌≡◌, ◌≤◌, ◌<◌, ◌+◌, inl, inr, ℕ, zero, suc, Bool, true, not, Option, Some, None, List, [], ◌∷◌, length, map, slice_get, ap, sym, subst, ◌∙◌, arith}
 use Rattle.std.specs.List.{flat_map}
 use Rattle.std.proofs.lemmas.Bool.{eq-eqb, eqb-true}
 use Rattle.pulse_ids.specs.Ids.{NodeLit, WireId}
@@ -23,7 +23,8 @@ use Rattle.aig_core.specs.Laws.{NodesHaveTheirBits}
 use Rattle.source_machine.specs.Machines.{PlainMachine}
 use Rattle.source_machine.specs.Runs.{IsRunFrom, bit_of, next_state as next_bits}
 use Rattle.graph_build.specs.Built.{PlainBuilt, IsGraphOf}
-use Rattle.cell_netlist.specs.NetRuns.{bits_in}
+use Rattle.cell_netlist.specs.NetRuns.{bits_in, latches_from}
+use Rattle.rail_mapper.specs.Mapped.{state_from}
 use Rattle.pulse_ids.specs.Literals.{rail_sign}
 use Rattle.wire_ledgers.specs.Ledgers.{IsLedger}
 use Rattle.rail_mapper.specs.Labels.{literal_number, rail_bit, rails_in, IsBackOf, IsLabelled, Matches}
@@ -185,3 +186,21 @@ module _ (built : PlainBuilt) (label : ℕ → ℕ) (net : PlainNetlist) (ledger
         runs_agree vectors run valuations (next_bits machine valuation) (next_state net bits)
         (subst (λ (s : List Bool). Matches built label net s (next_state net bits)) (graph.next_values state first valuation v.0) (goes_on state first latches bits r.0 matches))
         r.1 v.1 cycle vector e rail m
+
+    -- and their states
+    pub states_agree : (vectors run valuations : List (List Bool)) (state : List Bool) (latches : LatchState) → Matches built label net state latches
+        → IsNetRunFrom net latches vectors run → IsRunFrom machine state vectors valuations
+        → (cycle : ℕ) → cycle ≤ length vectors → Matches built label net (state_from machine state valuations cycle) (latches_from net latches run cycle)
+    states_agree vectors run valuations state latches matches r v zero le = matches
+    states_agree [] run valuations state latches matches r v (suc cycle) le = absurd (omega arith)
+    states_agree (first ∷ vectors) [] valuations state latches matches r v (suc cycle) le = absurd r
+    states_agree (first ∷ vectors) (bits ∷ run) [] state latches matches r v (suc cycle) le = absurd v
+    states_agree (first ∷ vectors) (bits ∷ run) (valuation ∷ valuations) state latches matches r v (suc cycle) le =
+        later cycle (states_agree vectors run valuations (next_bits machine valuation) (next_state net bits)
+        (subst (λ (s : List Bool). Matches built label net s (next_state net bits)) (graph.next_values state first valuation v.0) (goes_on state first latches bits r.0 matches))
+        r.1 v.1 cycle (omega (arith, le)))
+      where
+        later : (cycle : ℕ) → Matches built label net (state_from machine (next_bits machine valuation) valuations cycle) (latches_from net (next_state net bits) run cycle)
+            → Matches built label net (state_from machine state (valuation ∷ valuations) (suc cycle)) (latches_from net latches (bits ∷ run) (suc cycle))
+        later zero m = m
+        later (suc cycle) m = m

@@ -10,11 +10,12 @@ use Rattle.pulse_ids.proofs.CallerLemmas.{IsIn-map, IsIn-from_map, IsIn-append}
 use Rattle.cell_netlist.specs.declared.kinds.Ask.{Ask}
 use Rattle.cell_netlist.specs.declared.kinds.Ask.TheVariants as asks
 use Rattle.cell_netlist.specs.declared.lines.Rail.{Rail}
+use Rattle.cell_netlist.specs.declared.lines.StateLine.{StateLine}
 use Rattle.cell_netlist.specs.Asked.{rail_of, signs_of, asked_rails}
 use Rattle.cell_netlist.specs.Netlists.{number_of_wires}
 use Rattle.cell_netlist.specs.NetRuns.{OutputsCarry}
 use Rattle.cell_netlist.specs.RailEquations.{IsNetRun}
-use Rattle.cell_netlist.specs.Sound.{IsSound}
+use Rattle.cell_netlist.specs.Sound.{IsNamedBefore, IsSound}
 use Rattle.aig_core.specs.Graphs.{count_of}
 use Rattle.aig_core.specs.Laws.{NodesHaveTheirBits}
 use Rattle.aig_core.proofs.CallerLemmas.{slice_get_bound}
@@ -27,7 +28,8 @@ use Rattle.rail_mapper.specs.LatchStages.{FrontsAt, fronts_of}
 use Rattle.rail_mapper.specs.OutputStages.{PutsOutputs, CanPut, outputs_from, OutputsAt}
 use Rattle.rail_mapper.specs.Plans.{output_uses}
 use Rattle.rail_mapper.specs.Stages.{IsClosing, Outputs}
-use Rattle.rail_mapper.proofs.OutputSteps.{output_draft, output_wires, outputs_closing, closed_sound, IsClosed, all_closed, closed_carries}
+use Rattle.rail_mapper.proofs.OutputSteps.{output_draft, output_wires, outputs_closing, closed_sound, IsClosed, all_closed, closed_carries, closed_follow}
+use Rattle.rail_mapper.specs.Mapped.{StatesFollow}
 use Rattle.rail_mapper.proofs.StageSteps.{leaves_inside}
 
 -- what an output rail leaves
@@ -205,10 +207,10 @@ module _ (built : PlainBuilt) (ask : Ask) (draft : PlainDraft) (h : OutputsAt bu
   pub ends_sound : draft.net.outputs ≡ length built.outputs → ((rail : Rail) → IsIn rail draft.net.input_rails → rail.port < draft.net.inputs)
       → ((first later : ℕ) (rail other : Rail) → first < later → slice_get draft.net.input_rails first ≡ Some rail → slice_get draft.net.input_rails later ≡ Some other
       → rail.port ≡ other.port → rail.sign ≡ other.sign → ⊥)
-      → IsSound draft.net
-  ends_sound ports ins twice = closed_sound built draft closed h.no_pending h.all_spread ins
+      → ((k : ℕ) (line : StateLine) → slice_get draft.net.states k ≡ Some line → IsNamedBefore draft.net k line → ⊥) → IsSound draft.net
+  ends_sound ports ins twice states_apart = closed_sound built draft closed h.no_pending h.all_spread ins
       (λ rail m. rw ports (asked_within ask (length built.outputs) (rail_of rail)
-      (subst (λ (l : List (ℕ × Sign)). IsIn (rail_of rail) l) h.rails (IsIn-map rail_of rail draft.net.output_rails m)))) twice
+      (subst (λ (l : List (ℕ × Sign)). IsIn (rail_of rail) l) h.rails (IsIn-map rail_of rail draft.net.output_rails m)))) twice states_apart
 
   pub ends_closed : IsClosed built draft
   ends_closed = all_closed built draft closed h.no_pending h.all_spread
@@ -217,3 +219,7 @@ module _ (built : PlainBuilt) (ask : Ask) (draft : PlainDraft) (h : OutputsAt bu
       → IsRun machine vectors valuations
       → OutputsCarry draft.net vectors run (bit_of machine valuations)
   ends_carries = closed_carries built draft closed h.no_pending h.all_spread
+
+  pub ends_follow : (machine : PlainMachine) → IsGraphOf machine built → NodesHaveTheirBits → (vectors run valuations : List (List Bool)) → IsNetRun draft.net vectors run
+      → IsRun machine vectors valuations → StatesFollow machine draft.net vectors valuations run
+  ends_follow = closed_follow built draft closed h.no_pending h.all_spread

@@ -1,20 +1,25 @@
 -- Output rails, and the end.
-use Rattle.std.proofs.Common.{◌≡◌, ◌≤◌, ◌<◌, inl, inr, ℕ, zero, suc, Bool, Some, List, [], ◌∷◌, ◌++◌, map, length, slice_get, slice_index_or, get_or, ◌-◌, ap, sym, subst, ◌∙◌, refl, arith}
+use Rattle.std.proofs.Common.{◌≡◌, ◌≤◌, ◌<◌, inl, inr, ℕ, zero, suc, Bool, false, Option, Some, List, [], ◌∷◌, ◌++◌, map, length, slice_get, slice_index_or, get_or, ◌-◌, ap, sym, subst, ◌∙◌, refl, arith}
+use Rattle.std.specs.Prelude.{option_map, unwrap_or}
 use Rattle.pulse_ids.specs.Ids.{NodeLit, numbered}
 use Rattle.pulse_ids.specs.declared.literals.Sign.{Sign}
+use Rattle.cell_netlist.specs.declared.kinds.Role.TheVariants.{Back}
 use Rattle.cell_netlist.specs.declared.lines.Rail.{Rail}
-use Rattle.pulse_ids.specs.Lists.{IsIn, occurrences}
+use Rattle.cell_netlist.specs.declared.lines.Cell.{Cell}
+use Rattle.cell_netlist.specs.declared.lines.Cell.TheVariants.{Droc}
+use Rattle.cell_netlist.specs.declared.lines.StateLine.{StateLine}
+use Rattle.pulse_ids.specs.Lists.{IsIn, occurrences, bit_at}
 use Rattle.cell_netlist.specs.Netlists.{PlainNetlist, number_of_wires}
-use Rattle.cell_netlist.specs.RailEquations.{first_state, IsNetRun}
-use Rattle.cell_netlist.specs.Sound.{IsSound}
-use Rattle.pulse_ids.proofs.CallerLemmas.{IsIn-append}
+use Rattle.cell_netlist.specs.RailEquations.{first_state, feed_of, IsNetRun}
+use Rattle.cell_netlist.specs.Sound.{IsBackFrom, IsNamedBefore, IsSound}
+use Rattle.pulse_ids.proofs.CallerLemmas.{IsIn-append, IsIn-place}
 use Rattle.cell_netlist.proofs.CallerLemmas.{number_of_wires-output}
 use Rattle.aig_core.specs.Graphs.{count_of}
 use Rattle.aig_core.specs.Laws.{NodesHaveTheirBits}
 use Rattle.graph_build.specs.Built.{PlainBuilt, IsGraphOf}
 use Rattle.source_machine.specs.Machines.{PlainMachine}
 use Rattle.source_machine.specs.Runs.{IsRun, IsRunFrom, bit_of}
-use Rattle.cell_netlist.specs.NetRuns.{OutputsCarry}
+use Rattle.cell_netlist.specs.NetRuns.{OutputsCarry, latches_from}
 use Rattle.pulse_ids.proofs.CallerLemmasOnCounts.{occurrences-append}
 use Rattle.wire_ledgers.specs.Ledgers.{IsLedger}
 use Rattle.rail_mapper.specs.Drafts.{PlainDraft, readers_of, open_in, IsDraft}
@@ -27,9 +32,10 @@ use Rattle.rail_mapper.specs.Plans.{rail_uses, front_uses, output_uses, left_fro
 use Rattle.rail_mapper.specs.Stages.{IsStage, IsClosing, Outputs}
 use Rattle.rail_mapper.specs.Tracks.{IsTracked}
 use Rattle.rail_mapper.proofs.DraftSteps.{take_step}
-use Rattle.rail_mapper.proofs.Ending.{tracked_labelled, tracked_sound}
+use Rattle.rail_mapper.proofs.Ending.{tracked_labelled, tracked_sound, state_linked}
 use Rattle.wire_ledgers.proofs.CallerLemmas.{output_step, same_open}
-use Rattle.rail_mapper.proofs.NetRuns.{starts, runs_agree}
+use Rattle.rail_mapper.proofs.NetRuns.{starts, runs_agree, states_agree}
+use Rattle.rail_mapper.specs.Mapped.{StatesFollow, state_from}
 use Rattle.rail_mapper.proofs.Stocks.{none_open}
 use Rattle.rail_mapper.proofs.Tracking.{take_tracked, same_const}
 
@@ -81,6 +87,7 @@ outputs_closing built port literal sign left before after h stands within out = 
         waits = t.0.waits;
         constants = λ preload feed q n m. same_const label out.middle.net (with_output out.middle.net port sign out.wire) (λ cell k d. k) preload feed q n (t.0.constants preload feed q n m);
         outputs = λ rail m. elim (IsIn-append rail out.middle.net.output_rails (output_rail port sign out.wire ∷ []) m) [ inl k ↦ t.0.outputs rail k | inr k ↦ only label t.1 rail k ];
+        states = t.0.states;
       }));
 }
   where
@@ -111,7 +118,7 @@ module _ (built : PlainBuilt) (draft : PlainDraft) (h : IsClosing built [] draft
   pub closed_sound : ((rail : Rail) → IsIn rail draft.net.input_rails → rail.port < draft.net.inputs) → ((rail : Rail) → IsIn rail draft.net.output_rails → rail.port < draft.net.outputs)
       → ((first later : ℕ) (rail other : Rail) → first < later → slice_get draft.net.input_rails first ≡ Some rail → slice_get draft.net.input_rails later ≡ Some other
       → rail.port ≡ other.port → rail.sign ≡ other.sign → ⊥)
-      → IsSound draft.net
+      → ((k : ℕ) (line : StateLine) → slice_get draft.net.states k ≡ Some line → IsNamedBefore draft.net k line → ⊥) → IsSound draft.net
   closed_sound = tracked_sound built (λ wire. slice_index_or h.labels wire 0) draft tracked ledger
 
   pub all_closed : IsClosed built draft
@@ -129,6 +136,24 @@ module _ (built : PlainBuilt) (draft : PlainDraft) (h : IsClosing built [] draft
       graph.within.kept.tidy law machine graph vectors run valuations built.inits (first_state draft.net)
       (starts built (λ wire. slice_index_or h.labels wire 0) draft.net ledger (tracked_labelled built (λ wire. slice_index_or h.labels wire 0) draft tracked) graph.within.kept.tidy law)
       r (subst (λ (s : List Bool). IsRunFrom machine s vectors valuations) (sym graph.first_bits) v)
+
+  pub closed_follow : (machine : PlainMachine) → IsGraphOf machine built → NodesHaveTheirBits → (vectors run valuations : List (List Bool)) → IsNetRun draft.net vectors run
+      → IsRun machine vectors valuations → StatesFollow machine draft.net vectors valuations run
+  closed_follow machine graph law vectors run valuations r v line m cycle le =
+      let label : ℕ → ℕ = λ wire. slice_index_or h.labels wire 0 in
+      let labelled = tracked_labelled built label draft tracked in
+      let its = state_linked built label draft tracked line m in
+      let latches = latches_from draft.net (first_state draft.net) run cycle in
+      let back : IsBackFrom draft.net its.feed.number its.preload = record {
+        back = Droc Back its.preload its.feed its.q its.n;
+        among = IsIn-place (Droc Back its.preload its.feed its.q its.n) draft.net.cells line.cell.number its.back;
+        role = (refl, refl, refl);
+      } in
+      ap (λ (o : Option Cell). unwrap_or (option_map (λ (cell : Cell). latches (feed_of cell)) o) false) its.back
+      ∙ states_agree built label draft.net ledger labelled graph.within.kept.tidy law machine graph vectors run valuations built.inits (first_state draft.net)
+      (starts built label draft.net ledger labelled graph.within.kept.tidy law) r (subst (λ (s : List Bool). IsRunFrom machine s vectors valuations) (sym graph.first_bits) v) cycle le
+      its.feed.number line.latch its.preload back its.feed_is
+      ∙ ap (λ (s : List Bool). bit_at (state_from machine s valuations cycle) line.latch) graph.first_bits
 
 -- after all rails the reads of fronts and output rails are left
 pub none_past : (counts : List ℕ) (rail : ℕ) → length counts ≤ rail → get_or counts rail 0 ≡ 0

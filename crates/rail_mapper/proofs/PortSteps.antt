@@ -16,7 +16,7 @@ use Rattle.rail_mapper.specs.Stages as stages
 
 -- a draft keeps its own ports, and one step after another keeps them
 pub inputs_same : (draft : PlainDraft) → KeepsInputs draft draft
-inputs_same draft = record { inputs = refl; outputs = refl; input_rails = refl; input_names = refl; output_names = refl }
+inputs_same draft = record { inputs = refl; outputs = refl; input_rails = refl; input_names = refl; output_names = refl; version = refl }
 
 pub inputs_on : (one two three : PlainDraft) → KeepsInputs one two → KeepsInputs two three → KeepsInputs one three
 inputs_on one two three a b = record {
@@ -25,6 +25,7 @@ inputs_on one two three a b = record {
   input_rails = b.input_rails ∙ a.input_rails;
   input_names = b.input_names ∙ a.input_names;
   output_names = b.output_names ∙ a.output_names;
+  version = b.version ∙ a.version;
 }
 
 pub ports_same : (draft : PlainDraft) → KeepsPorts draft draft
@@ -42,6 +43,7 @@ cells_keep before after cells e = record {
     input_rails = ap (λ (net : PlainNetlist). net.input_rails) e;
     input_names = ap (λ (net : PlainNetlist). net.input_names) e;
     output_names = ap (λ (net : PlainNetlist). net.output_names) e;
+    version = ap (λ (net : PlainNetlist). net.version) e;
   };
   output_rails = ap (λ (net : PlainNetlist). net.output_rails) e;
 }
@@ -75,12 +77,12 @@ pub constant_keeps : (before after : PlainDraft) → AddsConstant before after �
 constant_keeps before after (unread none_zero none_one e) = equal_keep before after e
 constant_keeps before after (added c) = cells_keep before after _ c.constant.added
 
-pub begin_keeps : (latch : ℕ) (init : Bool) (pos neg : ℕ) (before after : PlainDraft) → BeginsLatch latch init pos neg before after → KeepsPorts before after
-begin_keeps latch init pos neg before after (stages.unread no_pos no_neg e) = equal_keep before after e
-begin_keeps latch init pos neg before after (stages.started b) =
-    ports_on before b.middle after
-    (ports_on before _ b.middle (cells_keep before _ _ refl) (grow_if_keeps pos _ _ b.middle b.first))
-    (grow_if_keeps neg _ b.middle after b.second)
+-- a back leaves the ports
+pub begun_keeps : (draft : PlainDraft) (latch : ℕ) (init q n : Bool) → KeepsPorts draft (begun_draft draft latch init q n)
+begun_keeps draft latch init q n = record {
+  others = record { inputs = refl; outputs = refl; input_rails = refl; input_names = refl; output_names = refl; version = refl };
+  output_rails = refl;
+}
 
 pub finish_keeps : (rail : ℕ) (init : Bool) (before after : PlainDraft) → FinishesFirst rail init before after → KeepsPorts before after
 finish_keeps rail init before after f =
@@ -95,6 +97,7 @@ output_keeps rail port sign before after out =
       input_rails = ap (λ (d : PlainDraft). d.net.input_rails) out.added;
       input_names = ap (λ (d : PlainDraft). d.net.input_names) out.added;
       output_names = ap (λ (d : PlainDraft). d.net.output_names) out.added;
+      version = ap (λ (d : PlainDraft). d.net.version) out.added;
     })
 
 pub puts_keep : (literal : NodeLit) (port : ℕ) (signs : List Sign) (before after : PlainDraft) → PutsOutputs literal port signs before after → KeepsInputs before after

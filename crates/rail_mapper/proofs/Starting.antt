@@ -11,6 +11,9 @@ use Rattle.pulse_ids.specs.declared.literals.Sign.TheVariants.{Pos, Neg}
 use Rattle.pulse_ids.proofs.CallerLemmas.{IsIn-append, IsIn-from_map, IsIn-from_flat_map, place_of}
 use Rattle.pulse_ids.proofs.CallerLemmasOnCounts.{occurrences-absent}
 use Rattle.cell_netlist.specs.declared.kinds.Ask.{Ask}
+use Rattle.cell_netlist.specs.declared.kinds.Version.{Version}
+use Rattle.cell_netlist.specs.Netlists.{empty_netlist, versioned}
+use Rattle.wire_ledgers.specs.Ledgers.{IsLedger}
 use Rattle.cell_netlist.specs.Asked.{signs_of}
 use Rattle.aig_core.specs.declared.nodes.Node.{Node}
 use Rattle.aig_core.specs.declared.nodes.Node.TheVariants.{False, Input, Latch, And}
@@ -102,57 +105,63 @@ module _ (built : PlainBuilt) (demand : PlainDemand) (ask : Ask) (within : IsWit
       let all = ap (λ (l : List ℕ). length l) (outputs_all built ask (length built.outputs) (omega arith)) in
       omega (arith, within.kept.inputs_fit, within.kept.latches_fit, within.kept.pairs_fit, within.outputs_fit)
 
-  abbrev start : PlainDraft
-  start = with_reads (first_draft built.graph.inputs (length built.outputs) (rails_in built)) (uses built demand ask)
+  module _ (version : Version) where
+    -- a ledger doesn't tell of the version
+    of_version : IsLedger (empty_netlist built.graph.inputs (length built.outputs)) [] [] → IsLedger (versioned version built.graph.inputs (length built.outputs)) [] []
+    of_version h = record { in_order = h.in_order; once = h.once; inside = h.inside; rise = h.rise }
 
-  counted : (rail : ℕ) → readers_of start rail ≡ occurrences rail (uses built demand ask)
-  counted rail = elim (cases_lt rail (rails_in built)) [
-    | inl near ↦
-        let c = count_of_rail (replicate (rails_in built) 0) (uses built demand ask) rail (omega (arith, length-replicate {A = ℕ} (rails_in built) 0)) in
-        let n = none_counted (rails_in built) rail in omega arith
-    | inr far ↦
-        none_past start.counts rail (omega (arith, length-counted (replicate (rails_in built) 0) (uses built demand ask), length-replicate {A = ℕ} (rails_in built) 0))
-        ∙ sym (occurrences-absent rail (uses built demand ask) (λ m. let l = uses_low rail m in absurd (omega arith)))
-  ]
+    abbrev start : PlainDraft
+    start = with_reads (first_draft version built.graph.inputs (length built.outputs) (rails_in built)) (uses built demand ask)
 
-  bare : (rail : ℕ) → leaves_of start rail ≡ []
-  bare rail = bare_shelf (rails_in built) rail
+    counted : (rail : ℕ) → readers_of start rail ≡ occurrences rail (uses built demand ask)
+    counted rail = elim (cases_lt rail (rails_in built)) [
+      | inl near ↦
+          let c = count_of_rail (replicate (rails_in built) 0) (uses built demand ask) rail (omega (arith, length-replicate {A = ℕ} (rails_in built) 0)) in
+          let n = none_counted (rails_in built) rail in omega arith
+      | inr far ↦
+          none_past start.counts rail (omega (arith, length-counted (replicate (rails_in built) 0) (uses built demand ask), length-replicate {A = ℕ} (rails_in built) 0))
+          ∙ sym (occurrences-absent rail (uses built demand ask) (λ m. let l = uses_low rail m in absurd (omega arith)))
+    ]
 
-  counts_few : total start.counts ≤ 2 ^ 20 + 2 ^ 18
-  counts_few =
-      let t = total-counted (replicate (rails_in built) 0) (uses built demand ask) in let z = total-none (rails_in built) in let f = uses_few in omega arith
+    bare : (rail : ℕ) → leaves_of start rail ≡ []
+    bare rail = bare_shelf (rails_in built) rail
 
-  pub started : InputsAt built demand ask 0 start
-  started = record {
-    held = record {
-      is_draft = record {
-        ledger = rw (bare_shelves (rails_in built)) (begin_ledger built.graph.inputs (length built.outputs));
-        exact = λ rail. let b = ap (λ (l : List ℕ). length l) (bare rail) in let c = counted rail in omega arith;
+    counts_few : total start.counts ≤ 2 ^ 20 + 2 ^ 18
+    counts_few =
+        let t = total-counted (replicate (rails_in built) 0) (uses built demand ask) in let z = total-none (rails_in built) in let f = uses_few in omega arith
+
+    pub started : InputsAt built demand ask version 0 start
+    started = record {
+      held = record {
+        is_draft = record {
+          ledger = rw (bare_shelves (rails_in built)) (of_version (begin_ledger built.graph.inputs (length built.outputs)));
+          exact = λ rail. let b = ap (λ (l : List ℕ). length l) (bare rail) in let c = counted rail in omega arith;
+        };
+        is_at = record { spread = λ below none. absurd (omega arith); bare = λ above from. bare above };
+        planned = λ rail from. counted rail;
+        stock_size = length-replicate {A = List ℕ} (rails_in built) [];
+        counts_size = length-counted (replicate (rails_in built) 0) (uses built demand ask) ∙ length-replicate {A = ℕ} (rails_in built) 0;
+        labels = [];
+        one_each = refl;
+        tracked = λ label f. (
+          record {
+            stocked = λ rail wire m. absurd (subst (λ (l : List ℕ). IsIn wire l) (bare rail) m);
+            inputs = λ rail m. absurd m;
+            gates = λ cell m. absurd m;
+            backs = λ place preload feed q n e. absurd cc;
+            fronts = λ preload feed q n m. absurd m;
+            waits = λ place latch m. absurd m;
+            constants = λ preload feed q n m. absurd m;
+            outputs = λ rail m. absurd m;
+            states = λ line m. absurd m;
+          },
+          λ wire its m. absurd m,
+        );
       };
-      is_at = record { spread = λ below none. absurd (omega arith); bare = λ above from. bare above };
-      planned = λ rail from. counted rail;
-      stock_size = length-replicate {A = List ℕ} (rails_in built) [];
-      counts_size = length-counted (replicate (rails_in built) 0) (uses built demand ask) ∙ length-replicate {A = ℕ} (rails_in built) 0;
-      labels = [];
-      one_each = refl;
-      tracked = λ label f. (
-        record {
-          stocked = λ rail wire m. absurd (subst (λ (l : List ℕ). IsIn wire l) (bare rail) m);
-          inputs = λ rail m. absurd m;
-          gates = λ cell m. absurd m;
-          backs = λ place preload feed q n e. absurd cc;
-          fronts = λ preload feed q n m. absurd m;
-          waits = λ place latch m. absurd m;
-          constants = λ preload feed q n m. absurd m;
-          outputs = λ rail m. absurd m;
-        },
-        λ wire its m. absurd m,
-      );
-    };
-    wires = refl;
-    each = refl;
-    rails = refl;
-    frame = refl;
-    no_pending = refl;
-    room = record { wires = let f = counts_few in omega arith; cells = omega arith };
-  }
+      wires = refl;
+      each = refl;
+      rails = refl;
+      frame = refl;
+      no_pending = refl;
+      room = record { wires = let f = counts_few in omega arith; cells = omega arith };
+    }

@@ -18,6 +18,8 @@ use Rattle.rail_mapper.specs.Drafts.{PlainDraft, leaves_of, readers_of, Takes, G
 use Rattle.rail_mapper.specs.Labels.{IsGateOfNode}
 use Rattle.rail_mapper.specs.Tracks.{gate_sign, IsNodeGate, FitsGate, IsPaired, IsJoined, IsWaiting, FitsConst, IsTracked}
 use Rattle.wire_ledgers.proofs.CallerLemmasOnRanges.{in_range}
+use Rattle.rail_mapper.specs.StateLines.{IsStateOf}
+use Rattle.rail_mapper.proofs.TrackingStates.{more_state}
 use Rattle.rail_mapper.proofs.Stocks.{has_place}
 use Rattle.cell_netlist.specs.declared.kinds.Gate.TheVariants as gates
 
@@ -123,6 +125,8 @@ cells_tracked built label pending before after more h e fit gate stocked = recor
         | inr k ↦ absurd (gate (Droc Const preload feed q n) k tt)
       ];
   outputs = λ rail m. h.outputs rail (subst (λ (net : PlainNetlist). IsIn rail net.output_rails) e m);
+  states = λ line m. subst (λ (net : PlainNetlist). IsStateOf built label pending net.cells line) (sym e)
+      (more_state built label pending before.net.cells more line (h.states line (subst (λ (net : PlainNetlist). IsIn line net.states) e m)));
 }
 
 -- a leaf is taken
@@ -142,6 +146,7 @@ take_tracked built label pending before after rail wire h take = (
     waits = h.waits;
     constants = h.constants;
     outputs = h.outputs;
+    states = h.states;
   }),
   h.stocked rail wire (subst (λ (l : List ℕ). IsIn wire l) (sym take.first) (inl refl)),
 )

@@ -4,6 +4,7 @@ use Rattle.pulse_ids.specs.Ids.{WireId}
 use Rattle.cell_netlist.specs.declared.kinds.Role.{Role}
 use Rattle.cell_netlist.specs.declared.kinds.Role.TheVariants.{Front, Back, Const}
 use Rattle.cell_netlist.specs.declared.lines.Cell.{Cell}
+use Rattle.cell_netlist.specs.declared.lines.StateLine.{StateLine}
 use Rattle.cell_netlist.specs.declared.lines.Cell.TheVariants.{Droc}
 use Rattle.pulse_ids.specs.Lists.{IsIn}
 use Rattle.cell_netlist.specs.Netlists.{number_of_wires}
@@ -13,7 +14,9 @@ use Rattle.splitter_trees.specs.Spreading.{with_cells}
 use Rattle.droc_pairs.specs.Pairs.{asked_output, wires_for, begun_back}
 use Rattle.rail_mapper.specs.Drafts.{PlainDraft, with_cell}
 use Rattle.rail_mapper.specs.Tracks.{FitsGate, IsBegunFor, IsPaired, IsJoined, IsWaiting, IsTracked}
+use Rattle.rail_mapper.specs.StateLines.{IsLinked, IsStateOf}
 use Rattle.rail_mapper.proofs.Tracking.{more_paired, more_joined, more_waiting, same_const}
+use Rattle.rail_mapper.proofs.TrackingStates.{more_state}
 
 pub place_last : {X : Type 0} (xs : List X) (last : X) (place : ℕ) (x : X) → slice_get (xs ++ last ∷ []) place ≡ Some x → (slice_get xs place ≡ Some x) ⊎ ((place ≡ length xs) × (last ≡ x))
 place_last [] last zero x e = inr (refl, cc)
@@ -62,6 +65,19 @@ later_joined built label pending cells latch preload q n h = record {
   feed_is = h.feed_is;
 }
 
+later_state : (built : PlainBuilt) (label : ℕ → ℕ) (pending : List (ℕ × ℕ)) (cells : List Cell) (latch : ℕ) (line : StateLine)
+    → IsStateOf built label pending cells line → IsStateOf built label (pending ++ (length cells, latch) ∷ []) cells line
+later_state built label pending cells latch line (inl waits) = inl (IsIn-left (line.cell.number, line.latch) pending ((length cells, latch) ∷ []) waits)
+later_state built label pending cells latch line (inr its) = inr (record {
+  done = apart pending line.cell.number (length cells) latch (place_below cells line.cell.number (Droc Back its.preload its.feed its.q its.n) its.back) its.done;
+  preload = its.preload;
+  feed = its.feed;
+  q = its.q;
+  n = its.n;
+  back = its.back;
+  feed_is = its.feed_is;
+})
+
 -- a back that is begun
 pub begin_tracked : (built : PlainBuilt) (label : ℕ → ℕ) (pending : List (ℕ × ℕ)) (draft : PlainDraft) (latch : ℕ) (init q n : Bool) → IsTracked built label pending draft
     → IsBegunFor built label latch init (asked_output q (number_of_wires draft.net)) (asked_output n (number_of_wires draft.net + wires_for q))
@@ -95,6 +111,8 @@ begin_tracked built label pending draft latch init q n h begun = record {
     | inr k ↦ absurd (other_role Const preload feed on_q on_n k (λ e. cc))
   ];
   outputs = h.outputs;
+  states = λ line m. more_state built label (pending ++ (length draft.net.cells, latch) ∷ []) draft.net.cells (begun_back (number_of_wires draft.net) init q n ∷ []) line
+      (later_state built label pending draft.net.cells latch line (h.states line m));
 }
   where
     last_there : {X : Type 0} (xs : List X) (x : X) → slice_get (xs ++ x ∷ []) (length xs) ≡ Some x

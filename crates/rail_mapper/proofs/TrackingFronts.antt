@@ -5,6 +5,7 @@ use Rattle.pulse_ids.specs.Ids.{NodeLit, WireId, numbered}
 use Rattle.pulse_ids.specs.declared.literals.Sign.TheVariants.{Pos}
 use Rattle.cell_netlist.specs.declared.kinds.Role.TheVariants.{Front, Back, Const}
 use Rattle.cell_netlist.specs.declared.lines.Cell.{Cell}
+use Rattle.cell_netlist.specs.declared.lines.StateLine.{StateLine}
 use Rattle.cell_netlist.specs.declared.lines.Cell.TheVariants.{Droc}
 use Rattle.pulse_ids.specs.Lists.{IsIn}
 use Rattle.cell_netlist.specs.Netlists.{number_of_wires, IsDroc, with_feed, cells_with_feed}
@@ -17,6 +18,7 @@ use Rattle.rail_mapper.proofs.Feeds.{fed_there, fed_elsewhere, front_place}
 use Rattle.rail_mapper.specs.Drafts.{PlainDraft}
 use Rattle.rail_mapper.specs.Labels.{literal_number, rails_in}
 use Rattle.rail_mapper.specs.Tracks.{FitsGate, IsBegunFor, HasFront, IsPaired, IsJoined, IsWaiting, IsTracked}
+use Rattle.rail_mapper.specs.StateLines.{IsLinked, IsStateOf}
 use Rattle.rail_mapper.proofs.Tracking.{same_const}
 use Rattle.rail_mapper.proofs.TrackingBacks.{place_last}
 
@@ -208,6 +210,32 @@ module _ (built : PlainBuilt) (label : ℕ → ℕ) (place latch : ℕ) (pending
       only (inl e) = e
       only (inr m) = absurd m
 
+  -- a state line of the pair, and of others
+  now_state : (line : StateLine) → IsStateOf built label ((place, latch) ∷ pending) draft.net.cells line → IsStateOf built label pending fed line
+  now_state line (inl (inl e)) =
+      let at : place ≡ line.cell.number = ap (λ (p : ℕ × ℕ). p.0) e in
+      let its : latch ≡ line.latch = ap (λ (p : ℕ × ℕ). p.1) e in
+      inr (record {
+        done = subst (λ (k : ℕ). (other : ℕ) → IsIn {X = ℕ × ℕ} (k, other) pending → ⊥) at once;
+        preload = init;
+        feed = link;
+        q = stands.q;
+        n = stands.n;
+        back = ap (slice_get fed) (sym at) ∙ fed_back;
+        feed_is = link_is ∙ ap (λ (k : ℕ). rails_in built + k) its;
+      })
+  now_state line (inl (inr m)) = inl m
+  now_state line (inr its) = inr (record {
+    done = λ other m. its.done other (inr m);
+    preload = its.preload;
+    feed = its.feed;
+    q = its.q;
+    n = its.n;
+    back = fed_elsewhere place link longer line.cell.number (λ e. its.done latch (inl (ap (λ (k : ℕ). let pair : ℕ × ℕ = (k, latch) in pair) (sym e))))
+        ∙ front_place draft.net.cells front line.cell.number (Droc Back its.preload its.feed its.q its.n) its.back;
+    feed_is = its.feed_is;
+  })
+
   pub finish_tracked : IsTracked built label pending (record draft { net = with_front draft.net place init next })
   finish_tracked = record {
     stocked = h.stocked;
@@ -232,6 +260,7 @@ module _ (built : PlainBuilt) (label : ℕ → ℕ) (place latch : ℕ) (pending
       | inr (inr e) ↦ absurd (front_const preload feed q n e)
     ];
     outputs = h.outputs;
+    states = λ line m. now_state line (h.states line m);
   }
     where
       still_waiting : (at other : ℕ) → IsIn {X = ℕ × ℕ} (at, other) pending → IsWaiting built draft.net.cells at other → IsWaiting built fed at other

@@ -5,9 +5,10 @@ use Rattle.pulse_ids.specs.Ids.{numbered}
 use Rattle.pulse_ids.specs.Lists.{occurrences}
 use Rattle.pulse_ids.specs.declared.literals.Sign.{Sign}
 use Rattle.cell_netlist.specs.declared.kinds.Ask.{Ask}
+use Rattle.cell_netlist.specs.declared.kinds.Version.{Version}
 use Rattle.cell_netlist.specs.declared.lines.Rail.{Rail}
 use Rattle.cell_netlist.specs.Asked.{rail_of}
-use Rattle.cell_netlist.specs.Netlists.{netlist_of, number_of_wires}
+use Rattle.cell_netlist.specs.Netlists.{netlist_of, with_states, number_of_wires}
 use Rattle.graph_build.specs.Built.{PlainBuilt}
 use Rattle.rail_demand.specs.Demands.{PlainDemand}
 use Rattle.droc_pairs.specs.Pairs.{wires_for}
@@ -52,12 +53,12 @@ abbrev pub inputs_read : List ℕ → ℕ → List (ℕ × Sign)
 inputs_read reads count = flat_map (input_if reads) (range_with_len 2 count)
 
 -- the first rails of inputs are added, where they are to be read, and there is nothing else
-pub record InputsAt (built : PlainBuilt) (demand : PlainDemand) (ask : Ask) (count : ℕ) (draft : PlainDraft) : Type 0 where
+pub record InputsAt (built : PlainBuilt) (demand : PlainDemand) (ask : Ask) (version : Version) (count : ℕ) (draft : PlainDraft) : Type 0 where
   pub held : IsHeld built demand ask 0 (held_from (uses built demand ask) 0 (range_with_len 2 count)) draft
   pub wires : number_of_wires draft.net ≡ length (held_from (uses built demand ask) 0 (range_with_len 2 count))
   pub each : length draft.net.input_rails ≡ number_of_wires draft.net
   pub rails : map rail_of draft.net.input_rails ≡ inputs_read (uses built demand ask) count
-  pub frame : draft.net ≡ netlist_of built.graph.inputs (length built.outputs) draft.net.input_rails [] [] [] []
+  pub frame : draft.net ≡ with_states version [] (netlist_of built.graph.inputs (length built.outputs) draft.net.input_rails [] [] [] [])
   pub no_pending : draft.pending ≡ []
   pub room : HasRoom (2 ^ 17 - count) draft
 

@@ -10,6 +10,7 @@ use Rattle.rail_demand.specs.Demands.{PlainDemand, is_needed}
 use Rattle.rail_mapper.specs.Drafts.{PlainDraft, readers_of}
 use Rattle.rail_mapper.specs.Plans.{front_use, output_uses}
 use Rattle.rail_mapper.specs.Stages.{IsStage, IsClosing}
+use Rattle.rail_mapper.specs.StateLines.{lines_of, backs_from}
 
 -- the latches of which a rail is needed, of those below a number
 abbrev pub latches_needed : PlainBuilt → PlainDemand → ℕ → List ℕ
@@ -26,11 +27,14 @@ AreApart (pair ∷ pairs) = ((other : ℕ) → IsIn {X = ℕ × ℕ} (pair.0, ot
 abbrev pub latches_of : List (ℕ × ℕ) → List ℕ
 latches_of pending = map (λ pair. pair.1) pending
 
--- the backs of the latches below a number stand with their trees, and wait for their fronts
+-- the backs of the latches below a number stand with their trees, and wait for their fronts; there is no other back, and in version two each
+-- has its state line
 pub record BacksAt (built : PlainBuilt) (demand : PlainDemand) (ask : Ask) (latch : ℕ) (draft : PlainDraft) : Type 0 where
   pub stage : IsStage built demand ask (2 * (1 + built.graph.inputs + latch)) draft
   pub waiting : latches_of draft.pending ≡ latches_needed built demand latch
   pub apart : AreApart draft.pending
+  pub lines : draft.net.states ≡ lines_of draft.net.version draft.pending
+  pub places : backs_from 0 draft.net.cells ≡ map (λ pair. pair.0) draft.pending
 
 -- the rails that the fronts of pending pairs read
 abbrev pub fronts_of : PlainBuilt → List (ℕ × ℕ) → List ℕ

@@ -6,6 +6,7 @@ pub mod FanOuts
 pub mod FrontStages
 pub mod InputStages
 pub mod Labels
+pub mod StateLines
 pub mod LatchStages
 pub mod Lines
 pub mod Makings

@@ -10,10 +10,10 @@ use Rattle.cell_netlist.specs.Netlists.{number_of_wires}
 use Rattle.graph_build.specs.Built.{PlainBuilt}
 use Rattle.rail_demand.specs.Demands.{PlainDemand, is_needed}
 use Rattle.droc_pairs.specs.Pairs.{with_front, begun_back, wires_for}
-use Rattle.splitter_trees.specs.Spreading.{with_cells}
 use Rattle.rail_mapper.specs.Drafts.{PlainDraft, leaves_of, readers_of, Takes, Grows, Gated, IsDraft, IsAt, HasRoom, spare, AreInside}
 use Rattle.rail_mapper.specs.Labels.{rail_number, literal_number, sign_in, rails_in}
 use Rattle.rail_mapper.specs.Plans.{left_from, uses}
+use Rattle.rail_mapper.specs.StateLines.{line_if}
 use Rattle.rail_mapper.specs.Tracks.{IsNodeGate, IsTracked}
 use Rattle.aig_core.specs.declared.nodes.Node.TheVariants as nodes
 
@@ -98,10 +98,13 @@ pub record Outputs (rail port : ℕ) (sign : Sign) (before after : PlainDraft) :
   pub taken : Takes rail wire before middle
   pub added : after ≡ record middle { net = record middle.net { output_rails = middle.net.output_rails ++ record { port = port; sign = sign; wire = numbered wire } ∷ [] } }
 
--- a draft with a back more
+-- a draft with a back more, and in version two its state line
 abbrev pub begun_draft : PlainDraft → ℕ → Bool → Bool → Bool → PlainDraft
 begun_draft draft latch init q n = record draft {
-  net = with_cells draft.net (begun_back (number_of_wires draft.net) init q n ∷ []);
+  net = record draft.net {
+    cells = draft.net.cells ++ begun_back (number_of_wires draft.net) init q n ∷ [];
+    states = draft.net.states ++ line_if draft.net.version latch (length draft.net.cells);
+  };
   pending = draft.pending ++ (let half : ℕ × ℕ = (length draft.net.cells, latch) in half) ∷ [];
 }
 

@@ -6,6 +6,7 @@ use Rattle.pulse_ids.specs.declared.literals.Sign.TheVariants.{Pos, Neg}
 use Rattle.cell_netlist.specs.declared.kinds.Gate.{Gate}
 use Rattle.cell_netlist.specs.declared.kinds.Role.TheVariants.{Front, Back, Const}
 use Rattle.cell_netlist.specs.declared.lines.Rail.{Rail}
+use Rattle.cell_netlist.specs.declared.lines.StateLine.{StateLine}
 use Rattle.cell_netlist.specs.declared.lines.Cell.{Cell}
 use Rattle.cell_netlist.specs.declared.lines.Cell.TheVariants.{La, Fa, Split, Droc}
 use Rattle.pulse_ids.specs.Lists.{IsIn}
@@ -15,6 +16,7 @@ use Rattle.aig_core.specs.Graphs.{nodes_of, count_of}
 use Rattle.graph_build.specs.Built.{PlainBuilt}
 use Rattle.rail_mapper.specs.Drafts.{PlainDraft, leaves_of}
 use Rattle.rail_mapper.specs.Labels.{rail_number, literal_number, rails_in, IsGateOfNode, IsLabelledIfUsed, IsRailOfInput, IsRailOfOutput}
+use Rattle.rail_mapper.specs.StateLines.{IsStateOf}
 use Rattle.cell_netlist.specs.declared.kinds.Gate.TheVariants as gates
 use Rattle.aig_core.specs.declared.nodes.Node.TheVariants as nodes
 
@@ -118,3 +120,4 @@ pub record IsTracked (built : PlainBuilt) (label : ℕ → ℕ) (pending : List 
   pub waits : (place latch : ℕ) → IsIn {X = ℕ × ℕ} (place, latch) pending → IsWaiting built draft.net.cells place latch
   pub constants : (preload : Bool) (feed : WireId) (q n : Option WireId) → IsIn (Droc Const preload feed q n) draft.net.cells → FitsConst label draft.net preload feed q n
   pub outputs : (rail : Rail) → IsIn rail draft.net.output_rails → IsRailOfOutput built label rail
+  pub states : (line : StateLine) → IsIn line draft.net.states → IsStateOf built label pending draft.net.cells line

@@ -15,8 +15,8 @@ use std::alloc::Global;
 // Adds the rails of an input port that are to be read, the positive before the negative one.
 fn add_port(draft: &mut Draft, circuit: &Circuit, port: u32) -> Result<(), NoMemory>
     requires port { port < circuit.now.built.now.graph.inputs }
-    requires inputs { InputsAt circuit.now.built.now circuit.now.demand.now circuit.now.ask (2 * port) draft.old }
-    ensures { OnOk result (InputsAt circuit.now.built.now circuit.now.demand.now circuit.now.ask (2 * (port + 1)) draft.new) }
+    requires inputs { InputsAt circuit.now.built.now circuit.now.demand.now circuit.now.ask circuit.now.version (2 * port) draft.old }
+    ensures { OnOk result (InputsAt circuit.now.built.now circuit.now.demand.now circuit.now.ask circuit.now.version (2 * (port + 1)) draft.new) }
 {
     nodes_have_places(); // the node behind the constant and the ports before this one is this input
     let _ = circuit.built.graph(); // the proof learns that there are few inputs
@@ -26,8 +26,8 @@ fn add_port(draft: &mut Draft, circuit: &Circuit, port: u32) -> Result<(), NoMem
 
 /// Adds all input rails that are to be read, by rising ports.
 pub(crate) fn add_inputs(draft: &mut Draft, circuit: &Circuit) -> Result<(), NoMemory>
-    requires { InputsAt circuit.now.built.now circuit.now.demand.now circuit.now.ask 0 draft.old }
-    ensures { OnOk result (InputsAt circuit.now.built.now circuit.now.demand.now circuit.now.ask (2 * circuit.now.built.now.graph.inputs) draft.new) }
+    requires { InputsAt circuit.now.built.now circuit.now.demand.now circuit.now.ask circuit.now.version 0 draft.old }
+    ensures { OnOk result (InputsAt circuit.now.built.now circuit.now.demand.now circuit.now.ask circuit.now.version (2 * circuit.now.built.now.graph.inputs) draft.new) }
 {
     for port in 0..draft.inputs() {
         add_port(draft, circuit, port)?;

@@ -2,16 +2,21 @@
 
 ghost use Rattle.std.specs.Prelude.{◌≡◌, ◌≤◌, ◌<◌, ◌+◌, ◌*◌, ◌⊎◌, ◌^◌, ◌++◌, ◌∷◌, [], ℕ, true, length, slice_get, Some, IfOk, OnOk};
 ghost use Rattle.aig_core.specs.Graphs.{first_conjunction};
+ghost use Rattle.pulse_ids.specs.Quantities.{greatest_of};
+ghost use Rattle.pulse_ids.specs.declared.quantities.Quantity.TheVariants.{Latches};
 ghost use Rattle.cell_netlist.specs.Netlists.{number_of_wires};
+ghost use Rattle.cell_netlist.specs.States.{IsAboveStates};
 ghost use Rattle.droc_pairs.specs.Pairs.{wires_for};
 ghost use Rattle.rail_mapper.specs.Drafts.{readers_of, HasRoom};
 ghost use Rattle.rail_mapper.specs.Labels.{rail_number};
 ghost use Rattle.rail_mapper.specs.LatchStages.{BacksAt};
+ghost use Rattle.rail_mapper.specs.StateLines.{line_if};
 ghost use Rattle.rail_mapper.specs.Stages.{IsPlan, begun_draft, HasBegun, BeginsLatch};
 
 use crate::drafts::Draft;
+use cell_netlist::{StateLine, Version};
 use droc_pairs::begin_pair;
-use pulse_ids::{Ident, NoMemory, Sign};
+use pulse_ids::{CellId, Ident, NoMemory, Sign};
 use std::alloc::Global;
 
 // How many wires an output takes.
@@ -23,15 +28,30 @@ fn wires_of(asked: bool) -> u32
 }
 
 impl Draft {
+    /// Names the cell that keeps a latch by a state line, in version two.
+    fn name_state(&mut self, latch: u32, cell: CellId) -> Result<(), NoMemory>
+        requires limit { latch < greatest_of Latches }
+        requires above { IsAboveStates latch self.old.net.states }
+        ensures { OnOk result (self.new ≡ record self.old { net = record self.old.net { states = self.old.net.states ++ line_if self.old.net.version latch cell.number } }) }
+    {
+        match self.net.version() {
+            Version::One => Ok(()),
+            Version::Two => self.net.add_state(StateLine { latch, cell }),
+        }
+    }
+
     /// Adds the back of a latch, with the asked outputs.
     fn put_back(&mut self, latch: u32, init: bool, q: bool, n: bool) -> Result<(), NoMemory>
         requires asked { (q ≡ true) ⊎ (n ≡ true) }
         requires wires { number_of_wires self.old.net ≤ 4194300 }
         requires cells { length self.old.net.cells < 2 ^ 26 }
+        requires limit { latch < greatest_of Latches }
+        requires above { IsAboveStates latch self.old.net.states }
         ensures begun { OnOk result (self.new ≡ begun_draft self.old latch init q n) }
         ensures wires { OnOk result (number_of_wires self.new.net ≡ number_of_wires self.old.net + wires_for q + wires_for n) }
     {
         let half = begin_pair(&mut self.net, init, q, n)?;
+        self.name_state(latch, half.back)?;
         self.pending.push(latch, half)
     }
 
@@ -51,6 +71,8 @@ impl Draft {
         requires neg_counter { neg < length self.old.counts }
         requires room { HasRoom (2 ^ 16) self.old }
         requires behind { pos < neg }
+        requires limit { latch < greatest_of Latches }
+        requires above { IsAboveStates latch self.old.net.states }
         ensures { OnOk result (HasBegun latch init pos neg self.old self.new) }
     {
         let q = self.readers(pos) > 0;
@@ -77,6 +99,8 @@ impl Draft {
         requires neg_counter { neg < length self.old.counts }
         requires room { HasRoom (2 ^ 16) self.old }
         requires behind { pos < neg }
+        requires limit { latch < greatest_of Latches }
+        requires above { IsAboveStates latch self.old.net.states }
         ensures { OnOk result (BeginsLatch latch init pos neg self.old self.new) }
     {
         if self.readers(pos) == 0 && self.readers(neg) == 0 {

@@ -19,7 +19,7 @@ use crate::output_loops::add_outputs;
 use crate::port_names::{name_inputs, name_outputs};
 use crate::starts::start;
 use aig_core::{nodes_have_places, nodes_have_values};
-use cell_netlist::{Ask, Netlist, SoundNet};
+use cell_netlist::{Ask, Netlist, SoundNet, Version};
 use graph_build::Built;
 use pulse_ids::{Name, NoMemory};
 use rail_demand::{Demand, demands_are_closed};
@@ -31,7 +31,7 @@ fn begin_lines(alloc: Global, inputs: u32, circuit: &Circuit) -> Result<Draft, N
     requires inputs { inputs ≡ circuit.now.built.now.graph.inputs }
     requires demand { IsDemand circuit.now.built.now circuit.now.ask circuit.now.demand.now }
     requires plan { IsPlan circuit.now.built.now circuit.now.demand.now circuit.now.ask }
-    ensures { IfOk result (λ draft. InputsStand circuit.now.built.now circuit.now.demand.now circuit.now.ask draft) }
+    ensures { IfOk result (λ draft. InputsStand circuit.now.built.now circuit.now.demand.now circuit.now.ask circuit.now.version draft) }
 {
     let _ = circuit.built.outputs(); // the proof learns that the graph is within its limits
     let mut draft = start(alloc, inputs, circuit)?;
@@ -50,8 +50,8 @@ fn add_cells(
 ) -> Result<(), NoMemory>
     requires first { first ≡ first_conjunction circuit.now.built.now.graph }
     requires plan { IsPlan circuit.now.built.now circuit.now.demand.now circuit.now.ask }
-    requires inputs { InputsStand circuit.now.built.now circuit.now.demand.now circuit.now.ask draft.old }
-    ensures { OnOk result (CellsStand circuit.now.built.now circuit.now.demand.now circuit.now.ask draft.new) }
+    requires inputs { InputsStand circuit.now.built.now circuit.now.demand.now circuit.now.ask circuit.now.version draft.old }
+    ensures { OnOk result (CellsStand circuit.now.built.now circuit.now.demand.now circuit.now.ask circuit.now.version draft.new) }
 {
     let _ = circuit.built.outputs(); // the proof learns that the graph is within its limits
     begin_latches(alloc, draft, circuit)?;
@@ -63,7 +63,7 @@ fn add_cells(
 fn add_lines(alloc: Global, inputs: u32, circuit: &Circuit) -> Result<Draft, NoMemory>
     requires inputs { inputs ≡ circuit.now.built.now.graph.inputs }
     requires demand { IsDemand circuit.now.built.now circuit.now.ask circuit.now.demand.now }
-    ensures { IfOk result (λ draft. LinesStand circuit.now.built.now circuit.now.demand.now circuit.now.ask draft) }
+    ensures { IfOk result (λ draft. LinesStand circuit.now.built.now circuit.now.demand.now circuit.now.ask circuit.now.version draft) }
 {
     nodes_have_places(); // a latch's node is that of one of the latches
     demands_are_closed(); // a rail is needed just where it is to be read
@@ -94,7 +94,8 @@ fn name_ports(
 
 /// Makes the netlist of a machine from its graph, of which these rails are needed for the asked output rails.
 ///
-/// The netlist is sound and lean. It has exactly the asked output rails, and the machine's ports and names; and whatever its
+/// The netlist is sound and lean, and of this version; in version two its state lines name exactly its backs, one for each latch of which
+/// a rail is needed, in order, and these keep the states of the machine. It has exactly the asked output rails, and the machine's ports and names; and whatever its
 /// inputs are, its output rails carry the bits of the machine's outputs, by its rail equations. Its lines are in one
 /// order: a constant, where it is needed, with its trees; the trees of the needed rails of inputs; the back of each
 /// latch of which a rail is needed, with its trees; for each conjunction its positive rail's LA and its negative rail's
@@ -108,17 +109,23 @@ pub fn map(
     built: &Built,
     demand: &Demand,
     ask: Ask,
+    version: Version,
 ) -> Result<SoundNet, NoMemory>
     requires graph { IsGraphOf machine.now built.now }
     requires demand { IsDemand built.now ask demand.now }
-    ensures mapped { IfOk result (λ net. IsMapped machine.now built.now demand.now ask net) }
+    ensures mapped { IfOk result (λ net. IsMapped machine.now built.now demand.now ask version net) }
     ensures few { IfOk result (λ net. HasFewCells machine.now net) }
 {
     nodes_have_values(); // each node has the bit of what it stands for
     nodes_have_places(); // each node's number tells what it is
     demands_are_closed(); // each needed rail is of one of the nodes
     let raw = machine.raw();
-    let circuit = Circuit { built, demand, ask };
+    let circuit = Circuit {
+        built,
+        demand,
+        ask,
+        version,
+    };
     let draft = add_lines(alloc, raw.inputs.len() as u32, &circuit)?;
     let net = name_ports(
         draft.into_net(),

@@ -12,7 +12,7 @@ use crate::drafts::Draft;
 use crate::pending::Pending;
 use crate::shelves::Shelves;
 use aig_core::nodes_have_values;
-use cell_netlist::Netlist;
+use cell_netlist::{Netlist, Version};
 use pulse_ids::NoMemory;
 use std::alloc::Global;
 
@@ -28,14 +28,20 @@ fn zeros(alloc: Global, count: u32) -> Result<Vec<u32>, NoMemory>
     Ok(list)
 }
 
-/// A draft of these numbers of ports and of rails, with no line and no read.
-fn begin(alloc: Global, inputs: u32, outputs: u32, rails: u32) -> Result<Draft, NoMemory>
-    ensures { IfOk result (λ draft. draft ≡ first_draft inputs outputs rails) }
+/// A draft of this version, of these numbers of ports and of rails, with no line and no read.
+fn begin(
+    alloc: Global,
+    version: Version,
+    inputs: u32,
+    outputs: u32,
+    rails: u32,
+) -> Result<Draft, NoMemory>
+    ensures { IfOk result (λ draft. draft ≡ first_draft version inputs outputs rails) }
 {
     let counts = zeros(alloc, rails)?;
     let stock = Shelves::empty(alloc, rails)?;
     Ok(Draft {
-        net: Netlist::new(alloc, inputs, outputs),
+        net: Netlist::versioned(alloc, version, inputs, outputs),
         counts,
         stock,
         pending: Pending::none(alloc),
@@ -46,11 +52,17 @@ fn begin(alloc: Global, inputs: u32, outputs: u32, rails: u32) -> Result<Draft, 
 pub(crate) fn start(alloc: Global, inputs: u32, circuit: &Circuit) -> Result<Draft, NoMemory>
     requires inputs { inputs ≡ circuit.now.built.now.graph.inputs }
     requires nodes { nodes_in circuit.now.demand.now ≡ count_of circuit.now.built.now.graph }
-    ensures { IfOk result (λ draft. InputsAt circuit.now.built.now circuit.now.demand.now circuit.now.ask 0 draft) }
+    ensures { IfOk result (λ draft. InputsAt circuit.now.built.now circuit.now.demand.now circuit.now.ask circuit.now.version 0 draft) }
 {
     nodes_have_values(); // each conjunction is one of the graph's pairs
     let rails = 2 * circuit.built.graph().len();
-    let mut draft = begin(alloc, inputs, circuit.built.outputs(), rails)?;
+    let mut draft = begin(
+        alloc,
+        circuit.version,
+        inputs,
+        circuit.built.outputs(),
+        rails,
+    )?;
     count_uses(&mut draft, circuit);
     Ok(draft)
 }

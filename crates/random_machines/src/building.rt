@@ -3,7 +3,7 @@
 ghost use Rattle.std.specs.Prelude.{◌<◌, ◌≤◌};
 
 use anyhow::{Context, Result, bail};
-use cell_netlist::{Ask, SoundNet};
+use cell_netlist::{Ask, SoundNet, Version};
 use graph_build::build;
 use pulse_ids::{Ident, Lit, NetId, NoMemory};
 use rail_checker::check;
@@ -98,7 +98,7 @@ pub(crate) fn grounded(alloc: Global, raw: RawMachine) -> Result<Machine> {
 pub(crate) fn netlist_of(alloc: Global, machine: &Machine, ask: Ask) -> Result<SoundNet> {
     let built = build(alloc, machine)?;
     let needed = demand(alloc, &built, ask)?;
-    let net = map(alloc, machine, &built, &needed, ask)?;
+    let net = map(alloc, machine, &built, &needed, ask, Version::One)?;
     check(alloc, net.into_net())
         .ok()
         .context("the netlist is unsound")

@@ -108,6 +108,7 @@ rule_text (rules.RailTwice rail) = codes "rail twice at input " ++ decimal rail.
 rule_text (rules.Loop cell) = codes "loop at cell " ++ decimal cell.number
 rule_text (rules.LooseDroc cell) = codes "loose droc at cell " ++ decimal cell.number
 rule_text (rules.WrongPreload cell) = codes "wrong preload at cell " ++ decimal cell.number
+rule_text (rules.LooseState k) = codes "loose state at line " ++ decimal k
 
 abbrev pub unsound_line : Unsound → List ℕ
 unsound_line unsound = codes "unsound: " ++ (rule_text unsound ++ 10 ∷ [])

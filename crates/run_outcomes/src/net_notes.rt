@@ -65,5 +65,6 @@ fn rule_parts(unsound: Unsound) -> (&'static [u8], u32, &'static [u8])
         Unsound::Loop(cell) => (b"loop at cell ", cell.number(), b""),
         Unsound::LooseDroc(cell) => (b"loose droc at cell ", cell.number(), b""),
         Unsound::WrongPreload(cell) => (b"wrong preload at cell ", cell.number(), b""),
+        Unsound::LooseState(k) => (b"loose state at line ", k, b""),
     }
 }

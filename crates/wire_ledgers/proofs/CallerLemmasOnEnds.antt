@@ -61,4 +61,5 @@ closed_sound net ledger rules = record {
   grounded = λ cell m gate wire o. all_grounded net [] [] ledger wire (driven_inside net [] [] ledger cell m wire o);
   roles = rules.roles;
   preloads = rules.preloads;
+  states = rules.states;
 }

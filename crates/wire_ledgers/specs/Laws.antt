@@ -9,7 +9,7 @@ use Rattle.cell_netlist.specs.declared.lines.Cell.{Cell}
 use Rattle.cell_netlist.specs.declared.lines.Cell.TheVariants.{Droc}
 use Rattle.cell_netlist.specs.Netlists.{PlainNetlist, empty_netlist, wire_of, used, number_of_wires, Grounded, cells_with_feed}
 use Rattle.cell_netlist.specs.Wired.{IsWired}
-use Rattle.cell_netlist.specs.Sound.{FitsRole, IsFrontTo, IsBackFrom, IsSound}
+use Rattle.cell_netlist.specs.Sound.{FitsRole, IsFrontTo, IsBackFrom, AreStatesRight, IsSound}
 use Rattle.wire_ledgers.specs.Ledgers.{IsLedger, AddsCells}
 use Rattle.splitter_trees.specs.Spreading.{with_cells}
 
@@ -62,7 +62,7 @@ abbrev pub LedgersAreGrounded : Type 0
 LedgersAreGrounded = (net : PlainNetlist) (open_wires debts : List ℕ) → IsLedger net open_wires debts
     → (wire : ℕ) → wire < number_of_wires net → Grounded net wire
 
--- the rules of soundness that speak of ports and of roles
+-- the rules of soundness that speak of ports, of roles and of state lines
 pub record HasPortsAndRoles (net : PlainNetlist) : Type 0 where
   pub input_ports : (rail : Rail) → IsIn rail net.input_rails → rail.port < net.inputs
   pub output_ports : (rail : Rail) → IsIn rail net.output_rails → rail.port < net.outputs
@@ -70,6 +70,7 @@ pub record HasPortsAndRoles (net : PlainNetlist) : Type 0 where
       → slice_get net.input_rails later ≡ Some other → rail.port ≡ other.port → rail.sign ≡ other.sign → ⊥
   pub roles : (cell : Cell) → IsIn cell net.cells → FitsRole net cell
   pub preloads : (link : ℕ) (front back : Bool) → IsFrontTo net link front → IsBackFrom net link back → back ≡ not front
+  pub states : AreStatesRight net
 
 -- and with these rules the netlist is sound
 abbrev pub ClosedLedgersAreSound : Type 0

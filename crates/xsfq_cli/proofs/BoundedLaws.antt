@@ -16,7 +16,7 @@ use Rattle.xsfq_cli.proofs.Stopping.{took_nothing}
 
 -- what was taken is at most a read more than the greatest number of bytes
 order_limited : (order : Order) → reads order ≡ true → (text : List ℕ) → most_bytes order < length text → shown order text ≡ None → ⊥
-order_limited (Compile ask) reading text long none = sources.long_shown text long none
+order_limited (Compile ask version) reading text long none = sources.long_shown text long none
 order_limited Check reading text long none = net_texts.long_shown text long none
 order_limited Report reading text long none = net_texts.long_shown text long none
 order_limited (Simulate schedule trace) reading text long none = inputs.long_input_shown (has_scripts schedule) text long none

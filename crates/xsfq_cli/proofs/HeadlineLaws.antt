@@ -1,6 +1,7 @@
 -- The headline of `compile`, from the table.
 use Rattle.std.proofs.Common.{◌≡◌, ◌⊎◌, inl, inr, ◌++◌, List, ℕ, Ok, Err, refl, subst}
 use Rattle.cell_netlist.specs.declared.kinds.Ask.{Ask}
+use Rattle.cell_netlist.specs.declared.kinds.Version.{Version}
 use Rattle.cell_netlist.specs.Netlists.{PlainNetlist}
 use Rattle.cell_netlist.specs.Text.{text_of}
 use Rattle.xsfq_cli.specs.declared.orders.Order.{Order}
@@ -43,25 +44,25 @@ done_writes of order input output answers = go (answers_like order input output 
         by_end (inr (e, failed)) = cc
 
 -- a text of `compile` that was written
-written : (ask : Ask) (output : Output) (bytes text : List ℕ) (ending : Outcome) → Writes (Compile ask) bytes text ending → Wrote output text
-    → (net : PlainNetlist) × IsCompiled ask bytes net × Wrote output (text_of net)
-written ask output bytes text ending (net, compiled, e, d) wrote = (net, compiled, subst (λ (l : List ℕ). Wrote output l) e wrote)
+written : (ask : Ask) (version : Version) (output : Output) (bytes text : List ℕ) (ending : Outcome) → Writes (Compile ask version) bytes text ending → Wrote output text
+    → (net : PlainNetlist) × IsCompiled ask version bytes net × Wrote output (text_of net)
+written ask version output bytes text ending (net, compiled, e, d) wrote = (net, compiled, subst (λ (l : List ℕ). Wrote output l) e wrote)
 
 pub done_law : RefusalsAreOfBytes → DoneLaw
-done_law of ask input output answers =
-    let done = done_writes of (Compile ask) input output answers in
-    let made = written ask output done.bytes done.text done.ending done.writes done.wrote in
+done_law of ask version input output answers =
+    let done = done_writes of (Compile ask version) input output answers in
+    let made = written ask version output done.bytes done.text done.ending done.writes done.wrote in
     (done.bytes, done.reads_all, made.0, made.1, made.2)
 
 pub machine_law : OneVerdict → AcceptedLaw → MachineLaw
-machine_law one accepted ask input output outcome bytes machine e calm quiet answers verdict =
-    go (accepted (Compile ask) input output outcome bytes refl e calm quiet answers unrefused)
+machine_law one accepted ask version input output outcome bytes machine e calm quiet answers verdict =
+    go (accepted (Compile ask version) input output outcome bytes refl e calm quiet answers unrefused)
   where
-    unrefused : (refusal : Outcome) → Refuses (Compile ask) bytes refusal → ⊥
+    unrefused : (refusal : Outcome) → Refuses (Compile ask version) bytes refusal → ⊥
     unrefused refusal is = let both = one bytes (Ok machine) (Err refusal) verdict is in cc
 
-    go : (outcome ≡ outcomes.NoMemory) ⊎ ((text : List ℕ) × Writes (Compile ask) bytes text outcome × Wrote output text)
-        → (outcome ≡ outcomes.NoMemory) ⊎ ((outcome ≡ outcomes.Done) × (net : PlainNetlist) × IsCompiled ask bytes net × Wrote output (text_of net))
+    go : (outcome ≡ outcomes.NoMemory) ⊎ ((text : List ℕ) × Writes (Compile ask version) bytes text outcome × Wrote output text)
+        → (outcome ≡ outcomes.NoMemory) ⊎ ((outcome ≡ outcomes.Done) × (net : PlainNetlist) × IsCompiled ask version bytes net × Wrote output (text_of net))
     go (inl none) = inl none
     go (inr (text, writes, wrote)) =
-        let made = written ask output bytes text outcome writes wrote in inr (writes.3, made.0, made.1, made.2)
+        let made = written ask version output bytes text outcome writes wrote in inr (writes.3, made.0, made.1, made.2)

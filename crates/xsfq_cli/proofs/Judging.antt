@@ -87,14 +87,14 @@ module _ (founded : FoundedIsNotRefused) (equal : RefusalsAreEqual) (first : Fir
   verdicts_are_one = λ bytes one other is are. one_as (kind_of bytes) bytes one other is are
 
   pub refusals_are_one : OneRefusal
-  refusals_are_one (Compile ask) bytes one other is are = let e = verdicts_are_one bytes (Err one) (Err other) is are in cc
+  refusals_are_one (Compile ask version) bytes one other is are = let e = verdicts_are_one bytes (Err one) (Err other) is are in cc
   refusals_are_one Check bytes one other is are = one_check first (net_said bytes) one other is are
   refusals_are_one Report bytes one other is are = one_check first (net_said bytes) one other is are
   refusals_are_one (Simulate schedule trace) bytes one other is are = one_input first (input_said (has_scripts schedule) bytes) one other is are
   refusals_are_one (Workload bits) bytes one other is are = absurd is
 
   pub refused_without_text : RefusedHasNoText
-  refused_without_text (Compile ask) bytes text refusal ending is (net, compiled, e, d) =
+  refused_without_text (Compile ask version) bytes text refusal ending is (net, compiled, e, d) =
       let same = verdicts_are_one bytes (Err refusal) (Ok compiled.machine) is compiled.verdict in cc
   refused_without_text Check bytes text refusal ending is (net, checked, e, d) = unrefused sound net (net_said bytes) refusal checked.said checked.sound is
   refused_without_text Report bytes text refusal ending is (net, reported, d) =
@@ -140,7 +140,7 @@ input_refusal (Err refusal) outcome of e =
     let same : input_outcome refusal ≡ outcome = cc in subst IsRefusal same (input_outcome_is refusal (of refusal refl))
 
 pub refusals_of_bytes : blif_laws.SourcesAreTold → inputs.RefusalsAreOfBytes → RefusalsAreOfBytes
-refusals_of_bytes told of (Compile ask) bytes refusal is = refusal_as told (kind_of bytes) bytes refusal is
+refusals_of_bytes told of (Compile ask version) bytes refusal is = refusal_as told (kind_of bytes) bytes refusal is
 refusals_of_bytes told of Check bytes refusal is = check_of_bytes bytes (net_said bytes) refusal refl is
 refusals_of_bytes told of Report bytes refusal is = check_of_bytes bytes (net_said bytes) refusal refl is
 refusals_of_bytes told of (Simulate schedule trace) bytes refusal is =
@@ -153,7 +153,7 @@ refused_input (Ok input) outcome e = cc
 refused_input (Err refusal) outcome e = let same : outcome ≡ refusal = cc in ap (λ (o : Outcome). Err o) same
 
 pub shown_is_refused : EarlyStands → blif_laws.EarlyStands → nets.EarlyStands → inputs.EarlyStands → ShownIsRefused
-shown_is_refused stands also others last (Compile ask) bytes more outcome e = (source_is_early stands also).final bytes more outcome e
+shown_is_refused stands also others last (Compile ask version) bytes more outcome e = (source_is_early stands also).final bytes more outcome e
 shown_is_refused stands also others last Check bytes more outcome e = refused_text (net_said (bytes ++ more)) outcome ((net_is_early others).final bytes more outcome e)
 shown_is_refused stands also others last Report bytes more outcome e = refused_text (net_said (bytes ++ more)) outcome ((net_is_early others).final bytes more outcome e)
 shown_is_refused stands also others last (Simulate schedule trace) bytes more outcome e =

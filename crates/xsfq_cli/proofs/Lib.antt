@@ -5,6 +5,7 @@ pub mod BlifReading
 pub mod BlifVerdicts
 pub mod BoundedLaws
 pub mod CheckLaws
+pub mod LatchesKept
 pub mod CompiledSources
 pub mod Emitting
 pub mod Flushing

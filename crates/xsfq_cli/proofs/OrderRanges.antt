@@ -36,7 +36,7 @@ workload_in (word ∷ other ∷ words) = tt
 
 with_options : (command : List ℕ) (options : Options) → In (order_with command options)
 with_options command options =
-    either (bytes_eq command (codes "compile")) _ _ (unless_in _ (Compile _) tt)
+    either (bytes_eq command (codes "compile")) _ _ (unless_in _ (Compile _ _) tt)
     (either (bytes_eq command (codes "check")) _ _ (unless_in _ Check tt)
     (either (bytes_eq command (codes "report")) _ _ (unless_in _ Report tt)
     (either (bytes_eq command (codes "simulate")) _ _ (unless_in _ (Simulate _ _) tt) tt)))

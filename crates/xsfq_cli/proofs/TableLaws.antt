@@ -30,7 +30,7 @@ simulation_ends Script trace input text ending (made, fault, replayed, e, d) = r
 
 -- the ending of a text is one
 text_ends : (order : Order) (bytes text : List ℕ) (ending : Outcome) → Writes order bytes text ending → IsEnding ending
-text_ends (Compile ask) bytes text ending (net, compiled, e, d) = subst IsEnding (sym d) tt
+text_ends (Compile ask version) bytes text ending (net, compiled, e, d) = subst IsEnding (sym d) tt
 text_ends Check bytes text ending (net, checked, e, d) = subst IsEnding (sym d) tt
 text_ends Report bytes text ending (net, reported, d) = subst IsEnding (sym d) tt
 text_ends (Simulate schedule trace) bytes text ending (input, is) = simulation_ends schedule trace input text ending is.simulates

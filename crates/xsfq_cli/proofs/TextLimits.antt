@@ -15,17 +15,20 @@ use Rattle.cell_netlist.specs.declared.kinds.Ask.TheVariants.{Pos, Neg, Both}
 use Rattle.pulse_ids.specs.declared.literals.Sign.{Sign}
 use Rattle.cell_netlist.specs.declared.kinds.Gate.{Gate}
 use Rattle.cell_netlist.specs.declared.kinds.Gate.TheVariants.{La, Fa}
+use Rattle.cell_netlist.specs.declared.kinds.Version.{Version}
+use Rattle.cell_netlist.specs.declared.kinds.Version.TheVariants.{One, Two}
 use Rattle.cell_netlist.specs.declared.kinds.Role.{Role}
 use Rattle.cell_netlist.specs.declared.kinds.Role.TheVariants.{Front, Back, Const}
 use Rattle.cell_netlist.specs.Asked.{Asks, asked_rails, rail_of, signs_of}
 use Rattle.cell_netlist.specs.Netlists.{PlainNetlist, IsNetlist, driven, number_of_wires, outs, read, reads, wire_of}
 use Rattle.cell_netlist.specs.Sound.{IsSound}
-use Rattle.cell_netlist.specs.Text.{cell_words, line_of, name_words, rail_words, text_of}
+use Rattle.cell_netlist.specs.Text.{cell_words, line_of, name_words, rail_words, state_words, text_of, version_word}
+use Rattle.cell_netlist.proofs.CallerLemmas.{states_few, states_fit}
 use Rattle.cell_netlist.proofs.CallerLemmasOnDrivers.{driven-below, driven-once, output-read, read-low}
 use Rattle.netlist_reader.specs.Laws.{IsWithinLimits}
 use Rattle.rail_mapper.specs.Cells.{gate_in, role_in}
 use Rattle.rail_mapper.specs.Mapped.{HasFewCells, Named, gates_in, roles_in}
-use Rattle.xsfq_cli.proofs.TextSizes.{cells_size, lines_size, names_size, port_size, rail_size, three_size}
+use Rattle.xsfq_cli.proofs.TextSizes.{cells_size, lines_size, names_size, port_size, rail_size, state_size, three_size}
 
 -- numbers of which each stands in a list at most once are distinct
 apart : (n : ℕ) (xs : List ℕ) → occurrences n xs ≡ 0 → AllByRecursion (λ x. eqb n x ≡ false) xs
@@ -86,26 +89,31 @@ outputs_few ask count net asked =
     omega (arith, few, same, length-upto count)
 
 -- the first two lines of a text
-abbrev head_words : ℕ → ℕ → List (List (List ℕ))
-head_words inputs outputs = (codes "xsfq" ∷ codes "1" ∷ []) ∷ (codes "ports" ∷ decimal inputs ∷ decimal outputs ∷ []) ∷ []
+abbrev head_words : Version → ℕ → ℕ → List (List (List ℕ))
+head_words version inputs outputs = (codes "xsfq" ∷ version_word version ∷ []) ∷ (codes "ports" ∷ decimal inputs ∷ decimal outputs ∷ []) ∷ []
 
-head_size : (inputs outputs : ℕ) → inputs ≤ 2 ^ 14 → outputs ≤ 2 ^ 14 → length (flat_map line_of (head_words inputs outputs)) ≤ 25
-head_size inputs outputs few small =
-    let version : List ℕ = line_of (codes "xsfq" ∷ codes "1" ∷ []) in
+version_size : (version : Version) → length (line_of (codes "xsfq" ∷ version_word version ∷ [])) ≡ 7
+version_size One = refl
+version_size Two = refl
+
+head_size : (version : Version) (inputs outputs : ℕ) → inputs ≤ 2 ^ 14 → outputs ≤ 2 ^ 14 → length (flat_map line_of (head_words version inputs outputs)) ≤ 25
+head_size version inputs outputs few small =
+    let first : List ℕ = line_of (codes "xsfq" ∷ version_word version ∷ []) in
     let ports : List ℕ = line_of (codes "ports" ∷ decimal inputs ∷ decimal outputs ∷ []) in
-    let whole : length (flat_map line_of (head_words inputs outputs)) ≡ length version + length (ports ++ []) = length-append version (ports ++ []) in
+    let whole : length (flat_map line_of (head_words version inputs outputs)) ≡ length first + length (ports ++ []) = length-append first (ports ++ []) in
     let rest : length (ports ++ []) ≡ length ports + 0 = length-append ports [] in
-    let seven : length version ≡ 7 = refl in
+    let seven : length first ≡ 7 = version_size version in
     let line : length ports ≡ 5 + length (decimal inputs) + length (decimal outputs) + 3 = three_size (codes "ports") (decimal inputs) (decimal outputs) in
     omega (arith, whole, rest, seven, line, port_size inputs few, port_size outputs small)
 
 -- the words of a text, kind by kind
-kinds_size : (a b c d e f g : List (List (List ℕ))) → length (flat_map line_of (a ++ b ++ c ++ d ++ e ++ f ++ g))
+kinds_size : (a b c d e f g h : List (List (List ℕ))) → length (flat_map line_of (a ++ b ++ c ++ d ++ e ++ f ++ g ++ h))
     ≡ length (flat_map line_of a) + (length (flat_map line_of b) + (length (flat_map line_of c) + (length (flat_map line_of d)
-    + (length (flat_map line_of e) + (length (flat_map line_of f) + length (flat_map line_of g))))))
-kinds_size a b c d e f g =
+    + (length (flat_map line_of e) + (length (flat_map line_of f) + (length (flat_map line_of g) + length (flat_map line_of h)))))))
+kinds_size a b c d e f g h =
     omega (
       arith,
+      joined (a ++ b ++ c ++ d ++ e ++ f ++ g) h,
       joined (a ++ b ++ c ++ d ++ e ++ f) g,
       joined (a ++ b ++ c ++ d ++ e) f,
       joined (a ++ b ++ c ++ d) e,
@@ -148,13 +156,17 @@ module _ (machine : PlainMachine) (ask : Ask) (net : PlainNetlist) (few : fittin
       cells_size net.cells (λ wire is. driven_small wire (IsIn-right wire (map wire_of net.input_rails) (flat_map outs net.cells) is))
       (λ wire is. read_small wire (IsIn-left wire (flat_map reads net.cells) (map wire_of net.output_rails) is))
 
+  state_lines : length (flat_map line_of (map state_words net.states)) ≤ 28 * length net.states
+  state_lines = lines_size state_words 28 net.states (λ line is. state_size line (states_fit net.version net.states netlist.states line is))
+
   all_lines : length (text_of net)
-      ≡ length (flat_map line_of (head_words net.inputs net.outputs)) + (length (flat_map line_of (map (rail_words (codes "input")) net.input_rails))
+      ≡ length (flat_map line_of (head_words net.version net.inputs net.outputs)) + (length (flat_map line_of (map (rail_words (codes "input")) net.input_rails))
       + (length (flat_map line_of (map cell_words net.cells)) + (length (flat_map line_of (map (rail_words (codes "output")) net.output_rails))
-      + (length (flat_map line_of (map (name_words (codes "iname")) net.input_names)) + (length (flat_map line_of (map (name_words (codes "oname")) net.output_names)) + 4)))))
+      + (length (flat_map line_of (map state_words net.states))
+      + (length (flat_map line_of (map (name_words (codes "iname")) net.input_names)) + (length (flat_map line_of (map (name_words (codes "oname")) net.output_names)) + 4))))))
   all_lines =
-      kinds_size (head_words net.inputs net.outputs) (map (rail_words (codes "input")) net.input_rails) (map cell_words net.cells) (map (rail_words (codes "output")) net.output_rails)
-      (map (name_words (codes "iname")) net.input_names) (map (name_words (codes "oname")) net.output_names) ((codes "end" ∷ []) ∷ [])
+      kinds_size (head_words net.version net.inputs net.outputs) (map (rail_words (codes "input")) net.input_rails) (map cell_words net.cells) (map (rail_words (codes "output")) net.output_rails)
+      (map state_words net.states) (map (name_words (codes "iname")) net.input_names) (map (name_words (codes "oname")) net.output_names) ((codes "end" ∷ []) ∷ [])
 
   driven_lines : length net.input_rails + length (flat_map outs net.cells) ≤ 2 ^ 22
   driven_lines =
@@ -171,10 +183,12 @@ module _ (machine : PlainMachine) (ask : Ask) (net : PlainNetlist) (few : fittin
       omega (
         arith,
         all_lines,
-        head_size net.inputs net.outputs inputs_small outputs_small,
+        head_size net.version net.inputs net.outputs inputs_small outputs_small,
         input_lines,
         cell_lines,
         output_lines,
+        state_lines,
+        states_few net.version net.states netlist.states,
         names_size (codes "iname") 0 net.inputs net.input_names refl zero-le inputs_small netlist.input_names,
         names_size (codes "oname") 0 net.outputs net.output_names refl zero-le outputs_small netlist.output_names,
         inputs_small,

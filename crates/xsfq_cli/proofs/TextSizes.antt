@@ -14,9 +14,11 @@ use Rattle.cell_netlist.specs.declared.kinds.Role.TheVariants.{Front, Back, Cons
 use Rattle.cell_netlist.specs.declared.lines.Cell.{Cell}
 use Rattle.cell_netlist.specs.declared.lines.Cell.TheVariants.{La, Fa, Split, Droc}
 use Rattle.cell_netlist.specs.declared.lines.Rail.{Rail}
+use Rattle.cell_netlist.specs.declared.lines.StateLine.{StateLine}
 use Rattle.cell_netlist.specs.Names.{AreNamesFrom}
 use Rattle.cell_netlist.specs.Netlists.{outs, reads, used, wire_of}
-use Rattle.cell_netlist.specs.Text.{bit_word, cell_words, line_of, name_words, output_word, rail_words, role_word, sign_word, wire_word}
+use Rattle.cell_netlist.specs.Text.{bit_word, cell_words, line_of, name_words, output_word, rail_words, role_word, sign_word, state_words, wire_word}
+use Rattle.cell_netlist.proofs.CallerLemmas.{StateFits}
 use Rattle.rail_mapper.specs.Cells.{gate_in, role_in}
 
 -- small numbers
@@ -59,6 +61,19 @@ rail_size side rail port wire =
       port_size rail.port port,
       sign_size rail.sign,
       wire_size rail.wire wire,
+    )
+
+-- a state line
+number_size : (n : ℕ) → n < 2 ^ 32 → length (decimal n) ≤ 10
+number_size n small = length-decimal-le 10 n (omega arith) (omega (arith, small)) (omega (arith, small))
+
+pub state_size : (line : StateLine) → StateFits line → length (line_of (state_words line)) ≤ 28
+state_size line fits =
+    omega (
+      arith,
+      three_size (codes "state") (decimal line.latch) (decimal line.cell.number),
+      number_size line.latch fits.latch,
+      number_size line.cell.number fits.cell,
     )
 
 -- lines of one kind, none longer than this

@@ -5,6 +5,7 @@ use Rattle.source_machine.specs.Grounding.{IsWellFounded}
 use Rattle.source_machine.specs.Machines.{PlainMachine}
 use Rattle.aiger_reader.specs.Sources.{IsVerdictOf}
 use Rattle.cell_netlist.specs.declared.kinds.Ask.TheVariants.{Pos}
+use Rattle.cell_netlist.specs.declared.kinds.Version.TheVariants.{One}
 use Rattle.cell_netlist.specs.Netlists.{PlainNetlist}
 use Rattle.counter_sources.specs.Sources.{counter_text, CountersAreRead}
 use Rattle.junction_report.specs.declared.reports.Report.{Report}
@@ -44,7 +45,7 @@ module _ (read : CountersAreRead) where
       let same : Ok compiled.machine ≡ Ok (counter bits) =
       one (counter_text bits) (Ok compiled.machine) (Ok (counter bits)) compiled.verdict (counter-verdict bits few (founded bits few)) in
       let machine : compiled.machine ≡ counter bits = cc in
-      (net, subst (λ (m : PlainMachine). IsNetOf m Pos net) machine compiled.net_of, text_is, done)
+      (net, subst (λ (m : PlainMachine). IsNetOf m Pos One net) machine compiled.net_of, text_is, done)
 
 work-text-same : (work other : Work) → work.bits ≡ other.bits → work.net ≡ other.net → work.report ≡ other.report → work.counts ≡ other.counts
     → work_text work ≡ work_text other

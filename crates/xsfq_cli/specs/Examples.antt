@@ -1,6 +1,7 @@
 -- What some words order.
 use Rattle.std.specs.Prelude.{◌≡◌, List, ℕ, [], ◌∷◌, Some, None, true, false, codes}
 use Rattle.cell_netlist.specs.declared.kinds.Ask.TheVariants.{Pos, Neg, Both}
+use Rattle.cell_netlist.specs.declared.kinds.Version.TheVariants.{One, Two}
 use Rattle.xsfq_cli.specs.declared.orders.Order.TheVariants.{Check, Compile, Report, Simulate, Workload}
 use Rattle.pulse_traces.specs.declared.orders.DeliveryOrder.TheVariants.{First, Last, Mix}
 use Rattle.xsfq_cli.specs.declared.orders.Schedule.TheVariants.{Order, Script}
@@ -11,10 +12,17 @@ abbrev pub compile_with : List (List ℕ) → List (List ℕ)
 compile_with words = codes "compile" ∷ words
 
 pub record WordsAreOrders : Type 0 where
-  pub bare : order_of (compile_with []) ≡ Some (Compile Pos)
-  pub positive : order_of (compile_with (codes "--rails" ∷ codes "p" ∷ [])) ≡ Some (Compile Pos)
-  pub negative : order_of (compile_with (codes "--rails" ∷ codes "n" ∷ [])) ≡ Some (Compile Neg)
-  pub both : order_of (compile_with (codes "--rails" ∷ codes "both" ∷ [])) ≡ Some (Compile Both)
+  pub bare : order_of (compile_with []) ≡ Some (Compile Pos One)
+  pub positive : order_of (compile_with (codes "--rails" ∷ codes "p" ∷ [])) ≡ Some (Compile Pos One)
+  pub negative : order_of (compile_with (codes "--rails" ∷ codes "n" ∷ [])) ≡ Some (Compile Neg One)
+  pub both : order_of (compile_with (codes "--rails" ∷ codes "both" ∷ [])) ≡ Some (Compile Both One)
+  pub first_format : order_of (compile_with (codes "--format" ∷ codes "1" ∷ [])) ≡ Some (Compile Pos One)
+  pub second_format : order_of (compile_with (codes "--format" ∷ codes "2" ∷ [])) ≡ Some (Compile Pos Two)
+  pub rails_and_format : order_of (compile_with (codes "--format" ∷ codes "2" ∷ codes "--rails" ∷ codes "both" ∷ [])) ≡ Some (Compile Both Two)
+  pub format_twice : order_of (compile_with (codes "--format" ∷ codes "1" ∷ codes "--format" ∷ codes "1" ∷ [])) ≡ None
+  pub other_format : order_of (compile_with (codes "--format" ∷ codes "3" ∷ [])) ≡ None
+  pub check_with_format : order_of (codes "check" ∷ codes "--format" ∷ codes "2" ∷ []) ≡ None
+  pub simulate_with_format : order_of (codes "simulate" ∷ codes "--format" ∷ codes "2" ∷ []) ≡ None
   pub nothing : order_of [] ≡ None
   pub twice : order_of (compile_with (codes "--rails" ∷ codes "p" ∷ codes "--rails" ∷ codes "p" ∷ [])) ≡ None
   pub no_value : order_of (compile_with (codes "--rails" ∷ [])) ≡ None

@@ -20,7 +20,7 @@ use Rattle.xsfq_cli.specs.Workloads.{IsDone, work_text}
 
 -- it reads its input
 abbrev pub reads : Order → Bool
-reads (Compile ask) = true
+reads (Compile ask version) = true
 reads Check = true
 reads Report = true
 reads (Simulate schedule trace) = true
@@ -28,7 +28,7 @@ reads (Workload bits) = false
 
 -- the greatest number of bytes of an input that is not refused
 abbrev pub most_bytes : Order → ℕ
-most_bytes (Compile ask) = greatest_of SourceBytes
+most_bytes (Compile ask version) = greatest_of SourceBytes
 most_bytes Check = greatest_of NetBytes
 most_bytes Report = greatest_of NetBytes
 most_bytes (Simulate schedule trace) = greatest_of NetBytes + greatest_of TailBytes
@@ -36,7 +36,7 @@ most_bytes (Workload bits) = 0
 
 -- the refusal that the first bytes of the input show, whatever follows them
 abbrev pub shown : Order → List ℕ → Option Outcome
-shown (Compile ask) bytes = source_shown bytes
+shown (Compile ask version) bytes = source_shown bytes
 shown Check bytes = net_shown bytes
 shown Report bytes = net_shown bytes
 shown (Simulate schedule trace) bytes = input_shown (has_scripts schedule) bytes
@@ -44,7 +44,7 @@ shown (Workload bits) bytes = None
 
 -- the whole input is refused by this outcome
 abbrev pub Refuses : Order → List ℕ → Outcome → Type 0
-Refuses (Compile ask) bytes outcome = HasVerdict bytes (Err outcome)
+Refuses (Compile ask version) bytes outcome = HasVerdict bytes (Err outcome)
 Refuses Check bytes outcome = HasCheck bytes (Err outcome)
 Refuses Report bytes outcome = HasCheck bytes (Err outcome)
 Refuses (Simulate schedule trace) bytes outcome = HasInput (has_scripts schedule) bytes (Err outcome)
@@ -52,7 +52,7 @@ Refuses (Workload bits) bytes outcome = ⊥
 
 -- the command's text for the whole input, and the outcome where the output takes all of it
 abbrev pub Writes : Order → List ℕ → List ℕ → Outcome → Type 0
-Writes (Compile ask) bytes text ending = (net : PlainNetlist) × IsCompiled ask bytes net × (text ≡ text_of net) × (ending ≡ Done)
+Writes (Compile ask version) bytes text ending = (net : PlainNetlist) × IsCompiled ask version bytes net × (text ≡ text_of net) × (ending ≡ Done)
 Writes Check bytes text ending = (net : PlainNetlist) × IsChecked bytes net × (text ≡ sound_line net) × (ending ≡ Done)
 Writes Report bytes text ending = (net : PlainNetlist) × IsReported bytes net text × (ending ≡ Done)
 Writes (Simulate schedule trace) bytes text ending = (input : SoundInput) × IsSimulation schedule trace bytes input text ending

@@ -4,6 +4,7 @@ use Rattle.std.specs.Io.KnownBytes.{Consumes}
 use Rattle.byte_ports.specs.Causes.{Rose}
 use Rattle.source_machine.specs.Machines.{PlainMachine}
 use Rattle.cell_netlist.specs.declared.kinds.Ask.{Ask}
+use Rattle.cell_netlist.specs.declared.kinds.Version.{Version}
 use Rattle.cell_netlist.specs.declared.unsound.Unsound.{Unsound}
 use Rattle.cell_netlist.specs.Netlists.{PlainNetlist, IsNetlist}
 use Rattle.cell_netlist.specs.Sound.{IsFirstUnsound, IsSound}
@@ -103,16 +104,16 @@ BoundedLaw = (order : Order) (input : Input) (output : Output) (outcome : Outcom
 -- The headline: after `Done` all of a source was read, and the output took exactly the text of one netlist, to which it
 -- was compiled, and was flushed.
 abbrev pub DoneLaw : Type 0
-DoneLaw = (ask : Ask) (input : Input) (output : Output) → Answers (Some (Compile ask)) input output outcomes.Done
-    → (bytes : List ℕ) × ReadWhole source_shown input bytes × (net : PlainNetlist) × IsCompiled ask bytes net × Wrote output (text_of net)
+DoneLaw = (ask : Ask) (version : Version) (input : Input) (output : Output) → Answers (Some (Compile ask version)) input output outcomes.Done
+    → (bytes : List ℕ) × ReadWhole source_shown input bytes × (net : PlainNetlist) × IsCompiled ask version bytes net × Wrote output (text_of net)
 
 -- Where it tells its bytes and neither port failed, a source whose verdict is a machine is compiled, or memory was
 -- refused.
 abbrev pub MachineLaw : Type 0
-MachineLaw = (ask : Ask) (input : Input) (output : Output) (outcome : Outcome) (bytes : List ℕ) (machine : PlainMachine) → input.before ≡ Some bytes
-    → IsCalm input.faults input.faults_now → IsCalm output.faults output.faults_now → Answers (Some (Compile ask)) input output outcome
+MachineLaw = (ask : Ask) (version : Version) (input : Input) (output : Output) (outcome : Outcome) (bytes : List ℕ) (machine : PlainMachine) → input.before ≡ Some bytes
+    → IsCalm input.faults input.faults_now → IsCalm output.faults output.faults_now → Answers (Some (Compile ask version)) input output outcome
     → HasVerdict bytes (Ok machine)
-    → (outcome ≡ outcomes.NoMemory) ⊎ ((outcome ≡ outcomes.Done) × (net : PlainNetlist) × IsCompiled ask bytes net × Wrote output (text_of net))
+    → (outcome ≡ outcomes.NoMemory) ⊎ ((outcome ≡ outcomes.Done) × (net : PlainNetlist) × IsCompiled ask version bytes net × Wrote output (text_of net))
 
 -- After `Done` of `check` the whole input was one netlist's text, the netlist is sound, so that the law of every order
 -- holds of it, and the output took exactly its line and was flushed.

@@ -3,6 +3,7 @@ pub mod Answering
 pub mod Checked
 pub mod Examples
 pub mod Halves
+pub mod LatchBits
 pub mod Headline
 pub mod InputLimit
 pub mod Judgements

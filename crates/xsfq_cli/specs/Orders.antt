@@ -4,6 +4,8 @@ use Rattle.std.specs.Option.{is_some}
 use Rattle.std.specs.Str.{bytes_eq}
 use Rattle.cell_netlist.specs.declared.kinds.Ask.{Ask}
 use Rattle.cell_netlist.specs.declared.kinds.Ask.TheVariants.{Pos, Neg, Both}
+use Rattle.cell_netlist.specs.declared.kinds.Version.{Version}
+use Rattle.cell_netlist.specs.declared.kinds.Version.TheVariants.{One, Two}
 use Rattle.pulse_traces.specs.declared.orders.DeliveryOrder.TheVariants.{First, Last, Mix}
 use Rattle.word_scan.specs.Decimals.{plain_decimal_of}
 use Rattle.xsfq_cli.specs.declared.orders.Options.{Options}
@@ -14,7 +16,7 @@ use Rattle.xsfq_cli.specs.declared.orders.Schedule.TheVariants as schedules
 
 -- no option was given
 abbrev pub no_options : Options
-no_options = record { rails = None; schedule = None; trace = None }
+no_options = record { rails = None; format = None; schedule = None; trace = None }
 
 -- the rails that a word asks for
 abbrev pub ask_of : List ℕ → Option Ask
@@ -23,6 +25,10 @@ ask_of word =
     else if bytes_eq word (codes "n") then Some Neg
     else if bytes_eq word (codes "both") then Some Both
     else None
+
+-- the version that a word asks for
+abbrev pub format_of : List ℕ → Option Version
+format_of word = if bytes_eq word (codes "1") then Some One else if bytes_eq word (codes "2") then Some Two else None
 
 -- the mixed order of a word: `mix:` and a plain decimal
 abbrev pub mixed_of : List ℕ → Option Schedule
@@ -51,6 +57,7 @@ given_once (Some before) value = None
 abbrev pub with_option : Options → List ℕ → List ℕ → Option Options
 with_option options name value =
     if bytes_eq name (codes "--rails") then option_map (λ ask. record options { rails = Some ask }) (given_once options.rails (ask_of value))
+    else if bytes_eq name (codes "--format") then option_map (λ version. record options { format = Some version }) (given_once options.format (format_of value))
     else if bytes_eq name (codes "--order") then option_map (λ schedule. record options { schedule = Some schedule }) (given_once options.schedule (schedule_of value))
     else if bytes_eq name (codes "--trace") then option_map (λ trace. record options { trace = Some trace }) (given_once options.trace (trace_of value))
     else None
@@ -70,18 +77,22 @@ unless given order = if given then None else Some order
 abbrev pub asks_simulation : Options → Bool
 asks_simulation options = is_some options.schedule || is_some options.trace
 
+-- an option of `compile` is given
+abbrev pub asks_compilation : Options → Bool
+asks_compilation options = is_some options.rails || is_some options.format
+
 -- any option is given
 abbrev pub asks_any : Options → Bool
-asks_any options = is_some options.rails || asks_simulation options
+asks_any options = asks_compilation options || asks_simulation options
 
 -- the order of a command with options
 abbrev pub order_with : List ℕ → Options → Option Order
 order_with command options =
-    if bytes_eq command (codes "compile") then unless (asks_simulation options) (Compile (unwrap_or options.rails Pos))
+    if bytes_eq command (codes "compile") then unless (asks_simulation options) (Compile (unwrap_or options.rails Pos) (unwrap_or options.format One))
     else if bytes_eq command (codes "check") then unless (asks_any options) Check
     else if bytes_eq command (codes "report") then unless (asks_any options) Report
     else if bytes_eq command (codes "simulate") then
-    unless (is_some options.rails) (Simulate (unwrap_or options.schedule (schedules.Order First)) (unwrap_or options.trace false))
+    unless (asks_compilation options) (Simulate (unwrap_or options.schedule (schedules.Order First)) (unwrap_or options.trace false))
     else None
 
 abbrev pub order_if : List ℕ → Option Options → Option Order

@@ -1,6 +1,7 @@
 -- What the text of `workload` is: the netlist that `compile` makes of the counter's text, and one summary of it.
 use Rattle.std.specs.Prelude.{◌≡◌, ◌≤◌, ℕ, List}
 use Rattle.cell_netlist.specs.declared.kinds.Ask.TheVariants.{Pos}
+use Rattle.cell_netlist.specs.declared.kinds.Version.TheVariants.{One}
 use Rattle.cell_netlist.specs.Netlists.{PlainNetlist}
 use Rattle.cell_netlist.specs.Text.{text_of}
 use Rattle.counter_sources.specs.Sources.{counter_text}
@@ -16,13 +17,13 @@ use Rattle.xsfq_cli.specs.Workloads.{IsDone, work_text}
 -- The netlist's text that `workload` writes is one that `compile` writes for the counter's text.
 abbrev pub WorkloadIsCompiled : Type 0
 WorkloadIsCompiled =
-    (work : Work) → work.bits ≤ 4096 → IsDone work → Writes (Compile Pos) (counter_text work.bits) (text_of work.net) outcomes.Done
+    (work : Work) → work.bits ≤ 4096 → IsDone work → Writes (Compile Pos One) (counter_text work.bits) (text_of work.net) outcomes.Done
 
 -- And for the counter's text `compile` writes nothing but the text of a netlist of that counter.
 abbrev pub CounterIsCompiled : Type 0
 CounterIsCompiled =
-    (bits : ℕ) (text : List ℕ) (ending : Outcome) → bits ≤ 4096 → Writes (Compile Pos) (counter_text bits) text ending
-    → (net : PlainNetlist) × IsNetOf (counter bits) Pos net × (text ≡ text_of net) × (ending ≡ outcomes.Done)
+    (bits : ℕ) (text : List ℕ) (ending : Outcome) → bits ≤ 4096 → Writes (Compile Pos One) (counter_text bits) text ending
+    → (net : PlainNetlist) × IsNetOf (counter bits) Pos One net × (text ≡ text_of net) × (ending ≡ outcomes.Done)
 
 -- A counter's netlist has one report and one pair of counts, and so one text.
 abbrev pub OneWorkText : Type 0

@@ -1,6 +1,7 @@
 -- What `workload` does: it makes a counter, compiles it, reports on the netlist and simulates it.
 use Rattle.std.specs.Prelude.{ℕ, ◌≤◌, ⊤, true, List, [], ◌∷◌, ◌++◌, codes, replicate}
 use Rattle.cell_netlist.specs.declared.kinds.Ask.TheVariants.{Pos}
+use Rattle.cell_netlist.specs.declared.kinds.Version.TheVariants.{One}
 use Rattle.cell_netlist.specs.Netlists.{number_of_wires}
 use Rattle.cell_netlist.specs.Text.{text_of}
 use Rattle.junction_report.specs.Reports.{IsReport}
@@ -15,7 +16,7 @@ use Rattle.xsfq_cli.specs.Headline.{ComputesOnce, IsNetOf}
 
 -- an order that words may give: a counter has at least one bit and at most 4,096
 abbrev pub IsInRange : Order → Type 0
-IsInRange (Compile ask) = ⊤
+IsInRange (Compile ask version) = ⊤
 IsInRange Check = ⊤
 IsInRange Report = ⊤
 IsInRange (Simulate schedule trace) = ⊤
@@ -26,7 +27,7 @@ IsInRange (Workload bits) = (1 ≤ bits) × (bits ≤ 4096)
 -- counter's input is 1, in the order `mix` of its number of bits.
 pub record IsDone (work : Work) : Type 0 where
   pub computes : ComputesOnce (counter work.bits)
-  pub net_of : IsNetOf (counter work.bits) Pos work.net
+  pub net_of : IsNetOf (counter work.bits) Pos One work.net
   pub reports : IsReport work.net work.report
   pub counts : CountsSimulation (Mix work.bits) work.net (replicate 16 (true ∷ [])) work.counts
 

@@ -10,7 +10,7 @@ use crate::consuming::read_whole;
 use crate::sources::SourceReader;
 use aiger_reader::early_refusals_stand;
 use byte_ports::{Failed, Sink, Source};
-use cell_netlist::{Ask, Netlist, SoundNet};
+use cell_netlist::{Ask, Netlist, SoundNet, Version};
 use graph_build::build;
 use netlist_reader::texts_are_read;
 use netlist_writer::write_netlist;
@@ -22,16 +22,22 @@ use run_outcomes::Outcome;
 use source_machine::{Machine, one_run};
 use std::alloc::Global;
 
-/// Compiles a source to a netlist with these rails of each output port.
+/// Compiles a source to a netlist of this version, with these rails of each output port.
 #[derive(Drop)]
 pub(crate) struct Compile {
     pub(crate) ask: Ask,
+    pub(crate) version: Version,
 }
 
 /// The netlist of a machine: its graph, the rails that are needed, and the cells for them.
-pub(crate) fn netlist_of(alloc: Global, machine: &Machine, ask: Ask) -> Result<SoundNet, NoMemory>
+pub(crate) fn netlist_of(
+    alloc: Global,
+    machine: &Machine,
+    ask: Ask,
+    version: Version,
+) -> Result<SoundNet, NoMemory>
     ensures computes { ComputesOnce machine.now }
-    ensures net { IfOk result (λ net. IsNetOf machine.now ask net) }
+    ensures net { IfOk result (λ net. IsNetOf machine.now ask version net) }
 {
     // The laws that the clauses rest on, and what a machine and a netlist are; these calls do nothing.
     one_run();
@@ -40,7 +46,7 @@ pub(crate) fn netlist_of(alloc: Global, machine: &Machine, ask: Ask) -> Result<S
     let _ = machine.raw();
     let built = build(alloc, machine)?;
     let needed = demand(alloc, &built, ask)?;
-    let net = map(alloc, machine, &built, &needed, ask)?;
+    let net = map(alloc, machine, &built, &needed, ask, version)?;
     let _ = net.net().wires();
     Ok(net)
 }
@@ -70,7 +76,7 @@ impl Command for Compile {
 
     type Task = SoundNet;
 
-    ghost order = { λ command. orders.Compile command.ask };
+    ghost order = { λ command. orders.Compile command.ask command.version };
 
     ghost ready = { λ _. ⊤ };
 
@@ -80,7 +86,7 @@ impl Command for Compile {
         early_refusals_stand();
         blif_reader::early_refusals_stand();
         let machine = read_whole(input, SourceReader::new(alloc))?;
-        let net = netlist_of(alloc, &machine, self.ask)?;
+        let net = netlist_of(alloc, &machine, self.ask, self.version)?;
         Ok(net)
     }
 

@@ -3,17 +3,17 @@
 ghost use Rattle.std.specs.Prelude.{◌≡◌, ◌∷◌, IfSome, Some, map};
 ghost use Rattle.xsfq_cli.specs.Workloads.{IsInRange};
 ghost use Rattle.std.specs.String.{string_bytes};
-ghost use Rattle.xsfq_cli.specs.Orders.{ask_of, asks_any, asks_simulation, mixed_of, no_options, options_with, order_of, order_with, schedule_of, trace_of, unless, with_option, workload_of, workload_with};
+ghost use Rattle.xsfq_cli.specs.Orders.{ask_of, asks_any, asks_compilation, asks_simulation, format_of, mixed_of, no_options, options_with, order_of, order_with, schedule_of, trace_of, unless, with_option, workload_of, workload_with};
 
-use cell_netlist::Ask;
+use cell_netlist::{Ask, Version};
 use pulse_traces::DeliveryOrder;
 use word_scan::plain_decimal;
 
 /// A command and what it is asked for.
 #[derive(Clone, Copy, Debug, PartialEq, Eq)]
 pub enum Order {
-    /// Compile a source to a netlist with these rails of each output port.
-    Compile(Ask),
+    /// Compile a source to a netlist of this version, with these rails of each output port.
+    Compile(Ask, Version),
     /// Check whether a netlist is sound.
     Check,
     /// Report what a sound netlist costs and how deep it is.
@@ -37,12 +37,14 @@ pub enum Schedule {
 #[derive(Clone, Copy, Debug, PartialEq, Eq)]
 pub struct Options {
     pub(crate) rails: Option<Ask>,
+    pub(crate) format: Option<Version>,
     pub(crate) schedule: Option<Schedule>,
     pub(crate) trace: Option<bool>,
 }
 
 const NO_OPTIONS: Options = Options {
     rails: None,
+    format: None,
     schedule: None,
     trace: None,
 };
@@ -50,7 +52,8 @@ const NO_OPTIONS: Options = Options {
 impl Order {
     /// The order of the words after the program's name, or None where they order nothing. The first word is the
     /// command. Pairs of an option and its value follow in any order, each option at most once: for `compile`
-    /// the option `--rails` with `p`, `n` or `both`, which is `p` where it isn't given; for `simulate` the options
+    /// the options `--rails` with `p`, `n` or `both`, which is `p` where it isn't given, and `--format` with `1` or `2`, which is `1` where it
+    /// isn't given; for `simulate` the options
     /// `--order` with `first`, `last`, `mix:` and a plain decimal below 2^32, or `script`, which is `first` where it
     /// isn't given, and `--trace` with `yes` or `no`, which is `no` where it isn't given. `check` and `report` have no
     /// options. `workload` is followed by one plain decimal from 1 to 4,096.
@@ -81,12 +84,15 @@ impl Order {
         match command {
             "compile" => unless(
                 options.asks_simulation(),
-                Order::Compile(options.rails.unwrap_or(Ask::Pos)),
+                Order::Compile(
+                    options.rails.unwrap_or(Ask::Pos),
+                    options.format.unwrap_or(Version::One),
+                ),
             ),
             "check" => unless(options.asks_any(), Order::Check),
             "report" => unless(options.asks_any(), Order::Report),
             "simulate" => unless(
-                options.rails.is_some(),
+                options.asks_compilation(),
                 Order::Simulate(
                     options
                         .schedule
@@ -127,6 +133,7 @@ impl Options {
         let mut options = self;
         match name {
             "--rails" if self.rails.is_none() => options.rails = Some(ask_of(value)?),
+            "--format" if self.format.is_none() => options.format = Some(format_of(value)?),
             "--order" if self.schedule.is_none() => options.schedule = Some(schedule_of(value)?),
             "--trace" if self.trace.is_none() => options.trace = Some(trace_of(value)?),
             _ => return None,
@@ -138,7 +145,14 @@ impl Options {
     fn asks_any(self) -> bool
         ensures { result ≡ asks_any self }
     {
-        self.rails.is_some() || self.asks_simulation()
+        self.asks_compilation() || self.asks_simulation()
+    }
+
+    /// Whether an option of `compile` is given.
+    fn asks_compilation(self) -> bool
+        ensures { result ≡ asks_compilation self }
+    {
+        self.rails.is_some() || self.format.is_some()
     }
 
     /// Whether an option of `simulate` is given.
@@ -185,6 +199,17 @@ fn ask_of(word: &str) -> Option<Ask>
         "p" => Some(Ask::Pos),
         "n" => Some(Ask::Neg),
         "both" => Some(Ask::Both),
+        _ => None,
+    }
+}
+
+/// The version that a word asks for.
+fn format_of(word: &str) -> Option<Version>
+    ensures { result ≡ format_of word.now }
+{
+    match word {
+        "1" => Some(Version::One),
+        "2" => Some(Version::Two),
         _ => None,
     }
 }

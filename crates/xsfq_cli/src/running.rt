@@ -45,7 +45,7 @@ fn order_carried_out<S: Source, K: Sink>(
     ensures { AnswersOrder order (input_of S.left S.faults input.old input.new) (output_of K.taken K.faults K.flushed output.old output.new) result }
 {
     match order {
-        Order::Compile(ask) => perform(Compile { ask }, alloc, input, output),
+        Order::Compile(ask, version) => perform(Compile { ask, version }, alloc, input, output),
         Order::Check => perform(Check, alloc, input, output),
         Order::Report => perform(MakeReport, alloc, input, output),
         Order::Simulate(schedule, trace) => simulate(alloc, schedule, trace, input, output),

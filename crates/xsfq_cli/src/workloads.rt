@@ -12,7 +12,7 @@ ghost use Rattle.xsfq_cli.specs.Workloads.{IsDone, head_text, summary_text, tail
 use crate::commands::Command;
 use crate::compiling::netlist_of;
 use byte_ports::{Failed, Sink, Source};
-use cell_netlist::{Ask, SoundNet};
+use cell_netlist::{Ask, SoundNet, Version};
 use junction_report::{Report, report, write_sizes};
 use netlist_writer::write_netlist;
 use pulse_ids::NoMemory;
@@ -73,7 +73,7 @@ fn do_work(alloc: Global, bits: u32) -> Result<Work, NoMemory>
     ensures work { IfOk result (λ work. IsDone work) }
 {
     let machine = machine_of(alloc, bits)?;
-    let net = netlist_of(alloc, &machine, Ask::Pos)?;
+    let net = netlist_of(alloc, &machine, Ask::Pos, Version::One)?;
     let report = report(alloc, &net)?;
     let counts = pulses(alloc, &net, bits)?;
     Ok(Work {

@@ -2,10 +2,17 @@ use Rattle.std.proofs.Common.{◌≡◌, ◌+◌, ◌∙◌, ap, arith}
 use Rattle.pulse_ids.specs.Ids.{NodeId, NodeLit}
 use Rattle.aig_core.specs.Graphs.{PlainGraph}
 use Rattle.rail_mapper.specs.Stages.{BeginsLatch}
+use Rattle.rail_mapper.proofs.LatchStageLemmas.{states_below}
 use Rattle.rail_mapper.proofs.LatchTurns.{begun_rails, back_stands}
 use Rattle.rail_mapper.proofs.LineSteps.{backs_lines}
 use Rattle.rail_mapper.proofs.Results.{on_ok}
 use Rattle.rail_mapper.proofs.latch_loops.begin_latch.Goals as goal
+
+pub begin_latch-requires-clause-limit : goal.begin_latch-requires-clause-limit
+begin_latch-requires-clause-limit c = omega (arith, c.requires.latch, c.graph.ensures.within.kept.latches_fit)
+
+pub begin_latch-requires-clause-above : goal.begin_latch-requires-clause-above
+begin_latch-requires-clause-above c = states_below c.args.circuit.now.built.now c.args.circuit.now.demand.now c.args.circuit.now.ask c.args.latch c.args.draft.now c.requires.backs
 
 pub returns-clause-backs : goal.returns-clause-backs
 returns-clause-backs c =

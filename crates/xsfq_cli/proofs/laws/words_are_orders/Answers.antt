@@ -5,6 +5,13 @@ use Rattle.xsfq_cli.proofs.laws.words_are_orders.Goals as goal
 pub returns : goal.returns
 returns c = record {
   bare = refl;
+  first_format = refl;
+  second_format = refl;
+  rails_and_format = refl;
+  format_twice = refl;
+  other_format = refl;
+  check_with_format = refl;
+  simulate_with_format = refl;
   positive = refl;
   negative = refl;
   both = refl;

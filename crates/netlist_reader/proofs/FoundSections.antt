@@ -172,7 +172,8 @@ module _ (line : List ℕ) (net : PlainNetlist) where
 
   grown_state : (state : StateLine) → Lacks 5 net → Grows (statements.State state)
   grown_state state lacks =
-      ap (λ (l : List (List (List ℕ))). six (head_lines net) (in_rails net) (in_cells net) (in_outputs net) l (in_input_names net) (in_output_names net)) (map-append state_words net.states (state ∷ []))
+      ap (λ (l : List (List (List ℕ))). six (head_lines net) (in_rails net) (in_cells net) (in_outputs net) l (in_input_names net) (in_output_names net))
+      (map-append state_words net.states (state ∷ []))
       ∙ behind_s (head_lines net) (in_rails net) (in_cells net) (in_outputs net) (in_states net) (in_input_names net) (in_output_names net) (state_words state)
       (ap (map (name_words (codes "iname"))) (lacks.input_names (omega arith))) (ap (map (name_words (codes "oname"))) (lacks.output_names (omega arith)))
 
@@ -220,7 +221,8 @@ module _ (line : List ℕ) (statement : Statement) (says : statement_in line ≡
       rw (line_found first (statements.Version version) at_first, line_found line (statements.Ports inputs outputs) now) refl
       ∙ sym (ap (λ (n : PlainNetlist). map spaced (all_lines n)) net)
 
-  lacks : (version ports : List ℕ) (lines : List (List ℕ)) (its : kinds.Version) (inputs outputs : ℕ) → statement_in version ≡ Some (statements.Version its) → statement_in ports ≡ Some (statements.Ports inputs outputs)
+  lacks : (version ports : List ℕ) (lines : List (List ℕ)) (its : kinds.Version) (inputs outputs : ℕ) → statement_in version ≡ Some (statements.Version its)
+      → statement_in ports ≡ Some (statements.Ports inputs outputs)
       → NoneLater (rank (section_of statement)) lines → Lacks (rank (section_of statement)) (netlist_in (version ∷ ports ∷ lines))
   lacks version ports lines its inputs outputs first second none =
       let n = rank (section_of statement) in

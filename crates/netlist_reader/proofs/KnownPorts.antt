@@ -11,7 +11,7 @@ use Rattle.netlist_reader.specs.declared.refusals.NetRefusal.{NetRefusal}
 use Rattle.netlist_reader.specs.declared.refusals.NetRefusal.TheVariants as refusals
 use Rattle.netlist_reader.specs.Statements.{statement_in}
 use Rattle.netlist_reader.specs.Limits.{limit_of}
-use Rattle.netlist_reader.specs.Places.{section_of, ports_by, inputs_of, netlist_in, follows_lines, fits_port, stands_after}
+use Rattle.netlist_reader.specs.Places.{section_of, ports_by, inputs_of, netlist_in, follows_lines, fits_behind, stands_after}
 use Rattle.netlist_reader.specs.Building.{inputs_after, inputs_refused, has_ended, allows, after_statement, unless_over, read_by, line_read}
 use Rattle.netlist_reader.proofs.Bools.{and_parts}
 use Rattle.netlist_reader.proofs.Steps.{refused, IsBuilt, IsPlaced, allowed_is, inputs_next, read_is}
@@ -24,11 +24,12 @@ none_said (version ∷ ports ∷ lines) line h = refl
 
 -- behind the version nothing but the ports is refused for its place
 not_ports : (last : Option Section) (statement : Statement) (built : Built) → built.last ≡ last → last ≡ Some Version → allows built statement ≡ false → ports_by (Some statement) ≡ None
-not_ports last statements.Version built e is wrong = refl
+not_ports last (statements.Version its) built e is wrong = refl
 not_ports last (statements.Ports inputs outputs) built e is wrong = absurd (let now : true ≡ false = sym (rw (e ∙ is) refl) ∙ wrong in cc)
 not_ports last (statements.Input rail) built e is wrong = refl
 not_ports last (statements.OneCell cell) built e is wrong = refl
 not_ports last (statements.Output rail) built e is wrong = refl
+not_ports last (statements.State state) built e is wrong = refl
 not_ports last (statements.InputName port) built e is wrong = refl
 not_ports last (statements.OutputName port) built e is wrong = refl
 not_ports last statements.End built e is wrong = refl
@@ -52,7 +53,7 @@ module _ (lines : List (List ℕ)) (built : Built) (is : IsBuilt lines built) (u
       let stands : stands_after lines statement ≡ true = sym (allowed_is line statement says lines built is) ∙ allowed in
       let same = same_refusal (refusals.Limit quantity) refusal read in
       ap (λ (r : NetRefusal). inputs_refused r built.inputs (Some statement)) (sym same) ∙ ap (λ (i : Option ℕ). inputs_after i statement) is.inputs
-      ∙ inputs_next line statement says lines built.last is.placed (and_parts (follows_lines lines (section_of statement)) (fits_port (netlist_in lines) statement) stands).0
+      ∙ inputs_next line statement says lines built.last is.placed (and_parts (follows_lines lines (section_of statement)) (fits_behind (netlist_in lines) statement) stands).0
   told_by statement false over refusal says allowed small read =
       let same = same_refusal (refusals.BadLine (built.lines + 1)) refusal read in
       ap (λ (r : NetRefusal). inputs_refused r built.inputs (Some statement)) (sym same) ∙ is.inputs

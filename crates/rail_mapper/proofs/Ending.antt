@@ -132,4 +132,11 @@ module _ (built : PlainBuilt) (label : ℕ → ℕ) (draft : PlainDraft) (h : Is
       → rail.port ≡ other.port → rail.sign ≡ other.sign → ⊥)
       → ((k : ℕ) (line : StateLine) → slice_get draft.net.states k ≡ Some line → IsNamedBefore draft.net k line → ⊥) → IsSound draft.net
   tracked_sound ledger ins outs_in twice states_apart =
-      closed_sound draft.net ledger (record { input_ports = ins; output_ports = outs_in; none_twice = twice; roles = cell_fits; preloads = pairs_complement ledger; states = record { backs = state_back; apart = states_apart } })
+      closed_sound draft.net ledger (record {
+        input_ports = ins;
+        output_ports = outs_in;
+        none_twice = twice;
+        roles = cell_fits;
+        preloads = pairs_complement ledger;
+        states = record { backs = state_back; apart = states_apart };
+      })

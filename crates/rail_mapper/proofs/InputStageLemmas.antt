@@ -80,7 +80,8 @@ module _ (built : PlainBuilt) (demand : PlainDemand) (ask : Ask) where
   abbrev hand : ℕ → List (ℕ × ℕ)
   hand count = held_from all_uses 0 (range_with_len 2 count)
 
-  pub input_one : {version : Version} (count port : ℕ) (sign : Sign) (before after : PlainDraft) → rail_number (1 + port) sign ≡ 2 + count → slice_get (nodes_of built.graph) (1 + port) ≡ Some (Input port)
+  pub input_one : {version : Version} (count port : ℕ) (sign : Sign) (before after : PlainDraft) → rail_number (1 + port) sign ≡ 2 + count
+      → slice_get (nodes_of built.graph) (1 + port) ≡ Some (Input port)
       → count < 2 ^ 16
       → InputsAt built demand ask version count before → AddsInput port sign before after → InputsAt built demand ask version (count + 1) after
   input_one {version = version} count port sign before after number stands few h (unread none e) = subst (InputsAt built demand ask version (count + 1)) (sym e) (record {

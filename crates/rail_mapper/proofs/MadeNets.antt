@@ -27,7 +27,8 @@ use Rattle.rail_mapper.proofs.NeededInputs.{inputs_within, inputs_none_twice}
 use Rattle.rail_mapper.proofs.OutputStageLemmas.{ends_sound, ends_closed, ends_carries, ends_follow}
 
 -- what keeps the ports keeps the frame
-pub frame_kept : {version : Version} (built : PlainBuilt) (demand : PlainDemand) (before after : PlainDraft) → HasFrame built demand version before → KeepsInputs before after → HasFrame built demand version after
+pub frame_kept : {version : Version} (built : PlainBuilt) (demand : PlainDemand) (before after : PlainDraft) → HasFrame built demand version before → KeepsInputs before after
+    → HasFrame built demand version after
 frame_kept built demand before after h kept = record {
   inputs = kept.inputs ∙ h.inputs;
   outputs = kept.outputs ∙ h.outputs;
@@ -37,7 +38,8 @@ frame_kept built demand before after h kept = record {
   of_version = kept.version ∙ h.of_version;
 }
 
-module _ (machine : PlainMachine) (built : PlainBuilt) (demand : PlainDemand) (ask : Ask) (version : Version) (graph : IsGraphOf machine built) (draft : PlainDraft) (h : LinesStand built demand ask version draft)
+module _ (machine : PlainMachine) (built : PlainBuilt) (demand : PlainDemand) (ask : Ask) (version : Version) (graph : IsGraphOf machine built) (draft : PlainDraft)
+    (h : LinesStand built demand ask version draft)
     (inputs outputs : List (ℕ × List ℕ)) where
   abbrev its : PlainDraft
   its = named_draft draft inputs outputs
@@ -81,7 +83,8 @@ module _ (machine : PlainMachine) (built : PlainBuilt) (demand : PlainDemand) (a
   }
 
 -- the same of a netlist that got its names
-pub net_sound : (machine : PlainMachine) (built : PlainBuilt) (demand : PlainDemand) (ask : Ask) (version : Version) → IsGraphOf machine built → (draft : PlainDraft) → LinesStand built demand ask version draft
+pub net_sound : (machine : PlainMachine) (built : PlainBuilt) (demand : PlainDemand) (ask : Ask) (version : Version) → IsGraphOf machine built
+    → (draft : PlainDraft) → LinesStand built demand ask version draft
     → (input_names output_names : List (Option (List ℕ))) (old net : PlainNetlist)
     → old ≡ draft.net → NamesPorts input_names output_names old net → IsSound net
 net_sound machine built demand ask version graph draft h input_names output_names old net same names =

@@ -49,7 +49,8 @@ no_lines Two = refl
 
 module _ (built : PlainBuilt) (demand : PlainDemand) (ask : Ask) (plan : IsPlan built demand ask) where
   -- the constant stands where it is needed
-  constant_needed : {version : Version} (before after : PlainDraft) → InputsAt built demand ask version (2 * built.graph.inputs) before → AddsConstant before after → AddsLines [] (constant_for demand) before after
+  constant_needed : {version : Version} (before after : PlainDraft) → InputsAt built demand ask version (2 * built.graph.inputs) before → AddsConstant before after
+      → AddsLines [] (constant_for demand) before after
   constant_needed before after h (unread no_zeros no_ones e) =
       subst (λ (b : Bool). AddsLines [] (if b then Const ∷ [] else []) before after) (sym neither) (subst (λ (d : PlainDraft). AddsLines [] [] before d) (sym e) (lines_same before))
     where
@@ -136,7 +137,8 @@ cells_stand {version = version} built demand ask start backs gates fronts h back
         (lines_on (gates_for built demand) [] [] (replicate (length gates.pending) Front) backs gates fronts gate_lines front_lines)
 
 -- and all lines after the output rails
-pub lines_stand : {version : Version} (built : PlainBuilt) (demand : PlainDemand) (ask : Ask) (before after : PlainDraft) → CellsStand built demand ask version before → OutputsAt built ask (length built.outputs) after
+pub lines_stand : {version : Version} (built : PlainBuilt) (demand : PlainDemand) (ask : Ask) (before after : PlainDraft) → CellsStand built demand ask version before
+    → OutputsAt built ask (length built.outputs) after
     → KeepsCells before after → LinesStand built demand ask version after
 lines_stand {version = version} built demand ask before after h outputs kept = record {
   outputs = outputs;

@@ -31,10 +31,12 @@ module _ (built : PlainBuilt) (demand : PlainDemand) (ask : Ask) (port : ℕ) (l
   stands : slice_get (nodes_of built.graph) (1 + port) ≡ Some (Input port)
   stands = (law built.graph (1 + port) port).1 (low, refl)
 
-  pub first_input : {version : Version} (before after : PlainDraft) → InputsAt built demand ask version (2 * port) before → AddsInput port Pos before after → InputsAt built demand ask version (2 * port + 1) after
+  pub first_input : {version : Version} (before after : PlainDraft) → InputsAt built demand ask version (2 * port) before → AddsInput port Pos before after
+      → InputsAt built demand ask version (2 * port + 1) after
   first_input before after h adds = input_one built demand ask (2 * port) port Pos before after (omega arith) stands (omega (arith, low, within.kept.inputs_fit)) h adds
 
-  pub second_input : {version : Version} (before after : PlainDraft) → InputsAt built demand ask version (2 * port + 1) before → AddsInput port Neg before after → InputsAt built demand ask version (2 * (port + 1)) after
+  pub second_input : {version : Version} (before after : PlainDraft) → InputsAt built demand ask version (2 * port + 1) before → AddsInput port Neg before after
+      → InputsAt built demand ask version (2 * (port + 1)) after
   second_input {version = version} before after h adds =
       subst (λ (k : ℕ). InputsAt built demand ask version k after) (let z : 2 * port + 1 + 1 ≡ 2 * (port + 1) = omega arith in z)
       (input_one built demand ask (2 * port + 1) port Neg before after (omega arith) stands (omega (arith, low, within.kept.inputs_fit)) h adds)

@@ -1,0 +1,12 @@
+-- The proofs of this crate.
+mod Lists
+mod WordLines
+mod WholeLines
+mod SymbolLines
+mod TextHeader
+mod Accepting
+mod RightLines
+mod TextLength
+mod ToldMachine
+mod ReadBack
+pub mod CallerLemmas

@@ -1,0 +1,7 @@
+//! Sources that are written from parts: the text in ASCII AIGER 1.9 of variables, inputs, latches, outputs, conjunctions and names, and
+//! the machine as which it is read. There is no code here but a law.
+#![tactic(auto)]
+
+mod laws;
+
+pub use laws::source_texts_are_read;

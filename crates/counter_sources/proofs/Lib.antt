@@ -1,10 +1,5 @@
 -- The proofs of this crate.
 mod BitParts
-mod NumberLines
-mod WholeLines
-mod TextHeader
-mod Accepting
-mod RightLines
-mod ToldMachine
+mod Ranges
 mod ReadBack
 mod ExampleTexts

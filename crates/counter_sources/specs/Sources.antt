@@ -1,54 +1,42 @@
 -- The source of a counter: an ASCII text of AIGER 1.9.
-use Rattle.std.specs.Prelude.{◌≡◌, ℕ, ◌+◌, ◌*◌, ◌≤◌, ◌++◌, List, [], ◌∷◌, Ok, map, codes, decimal}
+use Rattle.std.specs.Prelude.{◌≡◌, ℕ, ◌+◌, ◌*◌, ◌≤◌, List, [], ◌∷◌, None, Ok, map, codes}
 use Rattle.std.specs.List.{flat_map}
 use Rattle.pulse_ids.specs.Lists.{upto}
+use Rattle.source_machine.specs.Machines.{PlainLiteral}
+use Rattle.source_machine.specs.Examples.{plain, inverse}
 use Rattle.source_machine.specs.declared.unset.Unset.{Unset}
 use Rattle.aiger_reader.specs.Sources.{judgement}
-use Rattle.workload_circuits.specs.Counters.{held, carry, neither, toggled, incoming, counter}
+use Rattle.source_texts.specs.Parts.{SourceLatch, SourceAnd, SourceParts}
+use Rattle.source_texts.specs.Texts.{source_text}
+use Rattle.workload_circuits.specs.Counters.{held, carry, neither, toggled, incoming, counter_outputs, counter}
 
--- the literal of a net, which is its variable, and that of its complement
-abbrev pub even : ℕ → ℕ
-even net = 2 * net
-
-abbrev pub odd : ℕ → ℕ
-odd net = 2 * net + 1
-
--- numbers with a space between two
-abbrev pub spaced : List ℕ → List ℕ
-spaced [] = []
-spaced (number ∷ []) = decimal number
-spaced (number ∷ other ∷ numbers) = decimal number ++ 32 ∷ spaced (other ∷ numbers)
-
-abbrev pub line : List ℕ → List ℕ
-line numbers = spaced numbers ++ 10 ∷ []
-
--- the variables, inputs, latches, outputs and conjunctions
-abbrev pub header_numbers : ℕ → List ℕ
-header_numbers bits = (4 * bits + 1) ∷ 1 ∷ bits ∷ bits ∷ (3 * bits) ∷ []
-
-abbrev pub latch_numbers : ℕ → ℕ → List ℕ
-latch_numbers bits bit = even (held bit) ∷ even (toggled bits bit) ∷ []
-
-abbrev pub output_numbers : ℕ → List ℕ
-output_numbers bit = even (held bit) ∷ []
+-- the latch of a bit, whose line tells no first bit
+abbrev pub bit_part : ℕ → ℕ → SourceLatch
+bit_part bits bit = record { out = held bit; next = plain (toggled bits bit); reset = None }
 
 -- the conjunctions of a bit
-abbrev pub and_numbers : ℕ → ℕ → List (List ℕ)
-and_numbers bits bit =
-    (even (carry bits bit) ∷ even (held bit) ∷ even (incoming bits bit) ∷ []) ∷
-    (even (neither bits bit) ∷ odd (held bit) ∷ odd (incoming bits bit) ∷ []) ∷
-    (even (toggled bits bit) ∷ odd (carry bits bit) ∷ odd (neither bits bit) ∷ []) ∷ []
+abbrev pub conjunction_part : ℕ → PlainLiteral → PlainLiteral → SourceAnd
+conjunction_part net left right = record { net = net; left = left; right = right }
 
--- the numbers of the lines after the header
-abbrev pub body_numbers : ℕ → List (List ℕ)
-body_numbers bits =
-    (2 ∷ []) ∷ (map (latch_numbers bits) (upto bits) ++ (map output_numbers (upto bits) ++ flat_map (and_numbers bits) (upto bits)))
+abbrev pub and_parts : ℕ → ℕ → List SourceAnd
+and_parts bits bit =
+    conjunction_part (carry bits bit) (plain (held bit)) (plain (incoming bits bit)) ∷
+    conjunction_part (neither bits bit) (inverse (held bit)) (inverse (incoming bits bit)) ∷
+    conjunction_part (toggled bits bit) (inverse (carry bits bit)) (inverse (neither bits bit)) ∷ []
 
-abbrev pub header_line : ℕ → List ℕ
-header_line bits = codes "aag " ++ line (header_numbers bits)
+-- a counter has one input, and no names
+abbrev pub counter_parts : ℕ → SourceParts
+counter_parts bits = record {
+  variables = 4 * bits + 1;
+  inputs = 1 ∷ [];
+  latches = map (bit_part bits) (upto bits);
+  outputs = counter_outputs bits;
+  ands = flat_map (and_parts bits) (upto bits);
+  symbols = [];
+}
 
 abbrev pub counter_text : ℕ → List ℕ
-counter_text bits = header_line bits ++ flat_map line (body_numbers bits)
+counter_text bits = source_text (counter_parts bits)
 
 -- a counter is the machine that its text is judged to be
 abbrev pub CountersAreRead : Type 0

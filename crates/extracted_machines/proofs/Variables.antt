@@ -1,37 +1,24 @@
 -- The variables of latches and conjunctions rise by one.
-use Rattle.std.proofs.Common.{◌≡◌, ◌≢◌, ◌⊎◌, ◌<◌, ◌≤◌, ◌+◌, ℕ, zero, suc, Bool, true, false, not, if◌then◌else◌, ◌==◌, Option, Some, None, List, [], ◌∷◌, ◌++◌, map, length, length-append, take, slice_get, refl, sym, ◌∙◌, ap, subst, inl, inr, arith}
-use Rattle.std.specs.List.{flat_map}
+use Rattle.std.proofs.Common.{◌≡◌, ◌⊎◌, ◌+◌, ℕ, suc, Bool, true, false, if◌then◌else◌, ◌==◌, Option, Some, None, List, [], ◌∷◌, ◌++◌, map, length, length-append, take, slice_get, refl, sym, ◌∙◌, ap, subst, inl, inr, arith}
 use Rattle.std.specs.Prelude.{get_or}
-use Rattle.std.proofs.lemmas.Bool.{cases_Bool, cases_eq}
-use Rattle.std.proofs.lemmas.List.{append_assoc, append-nil, map-append}
-use Rattle.pulse_ids.specs.Ids.{WireId, Lit}
-use Rattle.pulse_ids.specs.Lists.{IsIn, occurrences}
-use Rattle.pulse_ids.specs.declared.literals.Sign.{Sign}
-use Rattle.pulse_ids.specs.declared.literals.Sign.TheVariants.{Pos, Neg}
-use Rattle.pulse_ids.proofs.CallerLemmas.{IsIn-append, IsIn-left, IsIn-right, IsIn-map, IsIn-from_map, IsIn-from_flat_map, IsIn-place, place_of}
-use Rattle.pulse_ids.proofs.CallerLemmasOnCounts.{test_same, test_other, occurrences-absent}
+use Rattle.std.proofs.lemmas.Bool.{cases_Bool}
+use Rattle.std.proofs.lemmas.List.{append_assoc, map-append}
+use Rattle.pulse_ids.specs.Ids.{Lit}
+use Rattle.pulse_ids.specs.Lists.{IsIn}
+use Rattle.pulse_ids.proofs.CallerLemmas.{IsIn-append}
 use Rattle.source_machine.specs.Machines.{PlainLatch, PlainEquation}
 use Rattle.source_machine.specs.Runs.{driven_nets}
-use Rattle.source_machine.specs.Grounding as machines
-use Rattle.source_machine.specs.Grounding.{cube_nets, used_nets, IsWellFounded, of_constant, of_input, of_latch, of_equation}
 use Rattle.cell_netlist.specs.declared.kinds.Role.TheVariants.{Front, Back, Const}
-use Rattle.cell_netlist.specs.declared.lines.Rail.{Rail}
 use Rattle.cell_netlist.specs.declared.lines.Cell.{Cell}
 use Rattle.cell_netlist.specs.declared.lines.Cell.TheVariants.{La, Fa, Split, Droc}
 use Rattle.cell_netlist.specs.LeanDecisions.{how_many}
-use Rattle.cell_netlist.specs.Netlists.{PlainNetlist, wire_of, used, outs, reads, IsDroc, Grounded, of_rail, of_droc, of_gate}
+use Rattle.cell_netlist.specs.Netlists.{PlainNetlist}
 use Rattle.cell_netlist.specs.Places.{At, on_wire, cell_places}
-use Rattle.cell_netlist.specs.Sound.{IsSound}
-use Rattle.cell_netlist.proofs.CallerLemmas.{named_below}
-use Rattle.cell_netlist.proofs.CallerLemmasOnDrivers.{is-droc, same_driver}
-use Rattle.cell_netlist.proofs.CallerLemmasOnLinks.{IsPlain, IsFrontOn, read-plain, not-front, front-outs}
 use Rattle.netlist_extract.specs.declared.outlines.LatchPart.{LatchPart}
 use Rattle.netlist_extract.specs.declared.outlines.AndPart.{AndPart}
-use Rattle.netlist_extract.specs.Outlines.{is_back, is_gate, plain, inverse, constant, flip, signed, rail_literal, back_variable, gate_variable, literal_if_used, cell_literals, literals_at, root_literals, literal_on, wire_literal, listed, by_cell, latch_of, latches_of, and_of, ands_of, outline_of}
-use Rattle.netlist_extract.proofs.CallerLemmas.{one_if, count_take, count_take-few, literal_at-rail, literal_at-cell, literal_at-splitter}
+use Rattle.netlist_extract.specs.Outlines.{is_back, is_gate, back_variable, gate_variable, listed, by_cell, latch_of, latches_of, and_of, ands_of}
+use Rattle.netlist_extract.proofs.CallerLemmas.{one_if}
 use Rattle.extracted_machines.specs.Machines.{numbers_from, latch_machine, and_machine, extracted}
-use Rattle.extracted_machines.specs.Laws.{ExtractsAreFounded}
-use Rattle.extracted_machines.proofs.Carrying.{by_cell-in}
 use Rattle.extracted_machines.proofs.RisingNumbers.{numbers-append}
 
 take-front : {X : Type 0} (xs ys : List X) → take (length xs) (xs ++ ys) ≡ xs

@@ -1,29 +1,25 @@
 -- The parts of the text of a netlist within the limits are in range.
-use Rattle.std.proofs.Common.{◌≡◌, ℕ, zero, suc, ◌+◌, ◌*◌, ◌<◌, ◌≤◌, Bool, true, false, ltb, List, [], ◌∷◌, ◌++◌, map, length, length-append, Option, Some, None, refl, sym, ◌∙◌, ap, subst, inl, inr, arith}
-use Rattle.std.specs.List.{flat_map}
+use Rattle.std.proofs.Common.{◌≡◌, ℕ, ◌+◌, ◌*◌, ◌≤◌, ltb, List, map, length, length-append, Some, None, refl, sym, ◌∙◌, ap, subst, inl, inr, arith}
 use Rattle.std.proofs.lemmas.Bool.{cases_Bool, ltb-false}
 use Rattle.std.proofs.lemmas.List.{length-map}
 use Rattle.pulse_ids.specs.Lists.{IsIn}
 use Rattle.pulse_ids.specs.Quantities.{greatest_of}
-use Rattle.pulse_ids.specs.declared.quantities.Quantity.{Quantity}
 use Rattle.pulse_ids.specs.declared.quantities.Quantity.TheVariants as quantities
 use Rattle.pulse_ids.proofs.CallerLemmas.{IsIn-append, IsIn-map, IsIn-from_map}
 use Rattle.source_machine.specs.Machines.{PlainLiteral, literal_of}
-use Rattle.cell_netlist.specs.declared.lines.Rail.{Rail}
 use Rattle.cell_netlist.specs.LeanDecisions.{how_many}
 use Rattle.cell_netlist.specs.Netlists.{PlainNetlist, wire_of}
 use Rattle.netlist_extract.specs.declared.outlines.LatchPart.{LatchPart}
 use Rattle.netlist_extract.specs.declared.outlines.AndPart.{AndPart}
 use Rattle.netlist_extract.specs.Limits.{limit_of}
-use Rattle.netlist_extract.specs.Outlines.{is_back, is_gate, wire_literal, input_symbol, output_symbol, by_rail, latches_of, ands_of, outline_of}
+use Rattle.netlist_extract.specs.Outlines.{is_back, is_gate, wire_literal, latches_of, ands_of, outline_of}
 use Rattle.netlist_extract.specs.Texts.{variables_in}
 use Rattle.extracted_machines.specs.Machines.{numbers_from}
-use Rattle.extracted_machines.proofs.CallerLemmas.{numbers-low, latch-variables, and-variables, literal-number, latch-numbers, and-numbers}
-use Rattle.source_texts.specs.Parts.{SourceLatch, SourceAnd, SourceParts, IsVariable, IsLatchOf, IsAndOf, IsPosition, IsSymbolOf, AreInRange}
+use Rattle.extracted_machines.proofs.CallerLemmas.{numbers-low, length-numbers, latch-variables, and-variables, literal-number, latch-numbers, and-numbers}
+use Rattle.source_texts.specs.Parts.{IsVariable, IsLatchOf, IsAndOf, IsPosition, IsSymbolOf, AreInRange}
 use Rattle.extracted_sources.specs.Sources.{source_latch, source_and, lettered, parts_of}
 use Rattle.extracted_sources.specs.Laws.{IsExtracted}
 use Rattle.extracted_sources.proofs.KeptNames.{IsKept, input_kept, input_few, output_kept, output_few, printable_lacks}
-use Rattle.extracted_sources.proofs.SameTexts.{length-numbers}
 
 -- what passes none of three limits
 pub record IsWithin (net : PlainNetlist) : Type 0 where
@@ -41,10 +37,10 @@ within net none = elim (cases_Bool (ltb (greatest_of quantities.Outputs) (length
             elim (cases_Bool (ltb (greatest_of quantities.Size) (3 * how_many is_gate net.cells))) [
               | inl over ↦ let e : Some quantities.Size ≡ None = rw (outputs, latches, over) at none in absurd cc
               | inr size ↦ record {
-                  outputs = ltb-false (greatest_of quantities.Outputs) (length net.output_rails) outputs;
-                  latches = ltb-false (greatest_of quantities.Latches) (how_many is_back net.cells) latches;
-                  size = ltb-false (greatest_of quantities.Size) (3 * how_many is_gate net.cells) size;
-                }
+                outputs = ltb-false (greatest_of quantities.Outputs) (length net.output_rails) outputs;
+                latches = ltb-false (greatest_of quantities.Latches) (how_many is_back net.cells) latches;
+                size = ltb-false (greatest_of quantities.Size) (3 * how_many is_gate net.cells) size;
+              }
             ]
       ]
 ]
@@ -52,12 +48,12 @@ within net none = elim (cases_Bool (ltb (greatest_of quantities.Outputs) (length
 module _ (net : PlainNetlist) (is : IsExtracted net) where
   latches_count : length (latches_of net) ≡ how_many is_back net.cells
   latches_count =
-      sym (length-map (latches_of net) (λ (latch : LatchPart). latch.variable.number)) ∙ ap length (latch-variables net is.sound)
+      sym (length-map (latches_of net) (λ (latch : LatchPart). latch.variable.number)) ∙ ap length (latch-variables net)
       ∙ length-numbers (net.inputs + 1) (how_many is_back net.cells)
 
   ands_count : length (ands_of net) ≡ how_many is_gate net.cells
   ands_count =
-      sym (length-map (ands_of net) (λ (and : AndPart). and.variable.number)) ∙ ap length (and-variables net is.sound)
+      sym (length-map (ands_of net) (λ (and : AndPart). and.variable.number)) ∙ ap length (and-variables net)
       ∙ length-numbers (net.inputs + 1 + how_many is_back net.cells) (how_many is_gate net.cells)
 
   abbrev variables : ℕ
@@ -69,7 +65,7 @@ module _ (net : PlainNetlist) (is : IsExtracted net) where
   latch_here : (latch : LatchPart) → IsIn latch (latches_of net) → IsLatchOf variables (source_latch latch)
   latch_here latch i =
       let among : IsIn latch.variable.number (numbers_from (net.inputs + 1) (how_many is_back net.cells)) =
-      subst (IsIn latch.variable.number) (latch-variables net is.sound) (IsIn-map (λ (latch : LatchPart). latch.variable.number) latch (latches_of net) i) in
+      subst (IsIn latch.variable.number) (latch-variables net) (IsIn-map (λ (latch : LatchPart). latch.variable.number) latch (latches_of net) i) in
       let low = numbers-low (net.inputs + 1) (how_many is_back net.cells) latch.variable.number among in
       let next = latch-numbers net is.sound latch i in
       record { out = (omega (arith, low.0), omega (arith, low.1, latches_count)); next = omega (arith, next, latches_count, ands_count) }
@@ -77,7 +73,7 @@ module _ (net : PlainNetlist) (is : IsExtracted net) where
   and_here : (and : AndPart) → IsIn and (ands_of net) → IsAndOf variables (source_and and)
   and_here and i =
       let among : IsIn and.variable.number (numbers_from (net.inputs + 1 + how_many is_back net.cells) (how_many is_gate net.cells)) =
-      subst (IsIn and.variable.number) (and-variables net is.sound) (IsIn-map (λ (and : AndPart). and.variable.number) and (ands_of net) i) in
+      subst (IsIn and.variable.number) (and-variables net) (IsIn-map (λ (and : AndPart). and.variable.number) and (ands_of net) i) in
       let low = numbers-low (net.inputs + 1 + how_many is_back net.cells) (how_many is_gate net.cells) and.variable.number among in
       let both = and-numbers net is.sound and i in
       record {
@@ -128,7 +124,14 @@ module _ (net : PlainNetlist) (is : IsExtracted net) where
       let i = input_few net.inputs net.input_names is.netlist.input_names in
       let o = output_few net.outputs net.output_names is.netlist.output_names 0 net.output_rails in
       omega (
-        arith, i, o, limits.outputs, is.inputs, length-append (map (lettered 105) ins) (map (lettered 111) outs), length-map ins (lettered 105), length-map outs (lettered 111)
+        arith,
+        i,
+        o,
+        limits.outputs,
+        is.inputs,
+        length-append (map (lettered 105) ins) (map (lettered 111) outs),
+        length-map ins (lettered 105),
+        length-map outs (lettered 111),
       )
 
   pub parts_in_range : AreInRange (parts_of (outline_of net))

@@ -1,14 +1,12 @@
 -- The text of a netlist is judged to be its machine.
-use Rattle.std.proofs.Common.{◌≡◌, Ok, ◌∙◌, ap}
-use Rattle.source_machine.specs.declared.unset.Unset.{Unset}
+use Rattle.std.proofs.Common.{Ok, ◌∙◌, ap}
 use Rattle.aiger_reader.specs.Sources.{judgement}
-use Rattle.cell_netlist.specs.Netlists.{PlainNetlist}
 use Rattle.netlist_extract.specs.Outlines.{outline_of}
 use Rattle.extracted_machines.specs.Machines.{extracted}
 use Rattle.extracted_machines.specs.Laws.{ExtractsAreFounded, ExtractsPulse}
 use Rattle.source_texts.proofs.CallerLemmas.{source_texts_are_read}
 use Rattle.extracted_sources.specs.Sources.{parts_of}
-use Rattle.extracted_sources.specs.Laws.{IsExtracted, ExtractsAreRead, ExtractsAreNetlists}
+use Rattle.extracted_sources.specs.Laws.{ExtractsAreRead, ExtractsAreNetlists}
 use Rattle.extracted_sources.proofs.SameTexts.{text_same}
 use Rattle.extracted_sources.proofs.SameMachines.{machine_same}
 use Rattle.extracted_sources.proofs.Ranges.{parts_in_range}

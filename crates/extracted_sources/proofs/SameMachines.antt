@@ -1,18 +1,17 @@
 -- The machine of an outline is that of its parts.
-use Rattle.std.proofs.Common.{◌≡◌, ◌⊎◌, ℕ, zero, suc, ◌+◌, Bool, true, false, cond, ◌&&◌, eqb, List, [], ◌∷◌, ◌++◌, map, length, Option, Some, None, refl, sym, ◌∙◌, ap, inl, inr, arith}
+use Rattle.std.proofs.Common.{◌≡◌, ℕ, zero, suc, ◌+◌, Bool, true, false, cond, ◌&&◌, eqb, List, [], ◌∷◌, ◌++◌, map, length, Option, Some, None, refl, sym, ◌∙◌, ap, inl, inr}
 use Rattle.std.specs.Option.{option_or}
 use Rattle.std.proofs.lemmas.Bool.{cases_eq, eq-eqb, ne_eqb}
 use Rattle.std.proofs.lemmas.List.{length-map}
-use Rattle.source_machine.specs.Machines.{PlainLiteral, PlainLatch, PlainEquation, PlainMachine, literal_of}
+use Rattle.source_machine.specs.Machines.{PlainLatch, PlainEquation, PlainMachine, literal_of}
 use Rattle.aiger_reader.specs.Machines as readers
-use Rattle.aiger_reader.specs.Symbols.{name_by}
 use Rattle.cell_netlist.specs.Names.{name_at}
 use Rattle.netlist_extract.specs.Outlines.{PlainOutline}
 use Rattle.netlist_extract.specs.Texts.{variables_in}
 use Rattle.extracted_machines.specs.Machines.{numbers_from, latch_machine, and_machine, machine_by}
-use Rattle.source_texts.specs.Parts.{SourceParts, latch_from, equation_from, name_given, names_given, machine_from}
+use Rattle.extracted_machines.proofs.CallerLemmas.{length-numbers}
+use Rattle.source_texts.specs.Parts.{latch_from, equation_from, name_given, names_given, machine_from}
 use Rattle.extracted_sources.specs.Sources.{source_latch, source_and, lettered, parts_of}
-use Rattle.extracted_sources.proofs.SameTexts.{length-numbers}
 
 numbers_same : (first count : ℕ) → readers.numbers_from first count ≡ numbers_from first count
 numbers_same first zero = refl

@@ -1,5 +1,5 @@
 -- The text of an outline is that of its parts.
-use Rattle.std.proofs.Common.{◌≡◌, ℕ, zero, suc, ◌+◌, ◌*◌, Bool, true, false, List, [], ◌∷◌, ◌++◌, map, length, codes, decimal, refl, sym, ◌∙◌, ap, arith}
+use Rattle.std.proofs.Common.{◌≡◌, Some, ℕ, zero, suc, ◌+◌, ◌*◌, Bool, true, false, List, [], ◌∷◌, ◌++◌, map, length, codes, decimal, refl, sym, ◌∙◌, ap, arith}
 use Rattle.std.specs.List.{flat_map}
 use Rattle.std.proofs.lemmas.Fmt.{decimal_digit}
 use Rattle.std.proofs.lemmas.List.{append_assoc, map-append, length-map}
@@ -8,11 +8,11 @@ use Rattle.source_machine.specs.Machines.{literal_of}
 use Rattle.cell_netlist.specs.Text as netlist_texts
 use Rattle.cell_netlist.specs.Text.{bit_word}
 use Rattle.netlist_extract.specs.declared.outlines.LatchPart.{LatchPart}
-use Rattle.netlist_extract.specs.declared.outlines.AndPart.{AndPart}
 use Rattle.netlist_extract.specs.Outlines.{PlainOutline}
 use Rattle.netlist_extract.specs.Texts as outlines
 use Rattle.netlist_extract.specs.Texts.{literal_word, variable_word, variables_in, section_words, symbols_words, aiger_text}
 use Rattle.extracted_machines.specs.Machines.{numbers_from}
+use Rattle.extracted_machines.proofs.CallerLemmas.{numbers-last, length-numbers}
 use Rattle.source_texts.specs.Texts.{spaced, line, reset_numbers, header_words, input_words, latch_words, output_words, and_words, symbol_words, body_words, source_text}
 use Rattle.extracted_sources.specs.Sources.{source_latch, source_and, lettered, parts_of}
 
@@ -26,16 +26,6 @@ lines_same : (lines : List (List (List ℕ))) → flat_map netlist_texts.line_of
 lines_same [] = refl
 lines_same (words ∷ lines) =
     ap (λ (l : List ℕ). l ++ flat_map netlist_texts.line_of lines) (line_same words) ∙ ap (λ (l : List ℕ). line words ++ l) (lines_same lines)
-
--- numbers from one on
-numbers-last : (first count : ℕ) → numbers_from first (suc count) ≡ numbers_from first count ++ (first + count) ∷ []
-numbers-last first zero = ap (λ n. n ∷ []) (omega arith)
-numbers-last first (suc count) =
-    ap (λ l. first ∷ l) (numbers-last (first + 1) count ∙ ap (λ n. numbers_from (first + 1) count ++ n ∷ []) (omega arith))
-
-pub length-numbers : (first count : ℕ) → length (numbers_from first count) ≡ count
-length-numbers first zero = refl
-length-numbers first (suc count) = ap suc (length-numbers (first + 1) count)
 
 ports_same : (count : ℕ) → map outlines.input_words (upto count) ≡ map input_words (numbers_from 1 count)
 ports_same zero = refl

@@ -1,5 +1,5 @@
 -- What is true of every text that is read back from a netlist.
-use Rattle.std.specs.Prelude.{◌≡◌, ◌≤◌, Bool, Some, None, Ok, List}
+use Rattle.std.specs.Prelude.{◌≡◌, ◌≤◌, None, Ok}
 use Rattle.pulse_ids.specs.Quantities.{greatest_of}
 use Rattle.pulse_ids.specs.declared.quantities.Quantity.TheVariants.{Inputs}
 use Rattle.source_machine.specs.Grounding.{IsWellFounded}

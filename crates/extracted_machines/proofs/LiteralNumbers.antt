@@ -15,7 +15,8 @@ use Rattle.cell_netlist.specs.Places.{on_wire, cell_places}
 use Rattle.cell_netlist.specs.Sound.{IsSound}
 use Rattle.netlist_extract.specs.declared.outlines.LatchPart.{LatchPart}
 use Rattle.netlist_extract.specs.declared.outlines.AndPart.{AndPart}
-use Rattle.netlist_extract.specs.Outlines.{is_back, is_gate, plain, inverse, constant, signed, rail_literal, back_variable, gate_variable, literal_if_used, literals_at, root_literals, wire_literal, listed, latch_of, latches_of, and_of, ands_of}
+use Rattle.netlist_extract.specs.Outlines.{is_back, is_gate, plain, inverse, constant, signed, rail_literal, back_variable, gate_variable, literal_if_used, literals_at, root_literals}
+use Rattle.netlist_extract.specs.Outlines.{wire_literal, listed, latch_of, latches_of, and_of, ands_of}
 use Rattle.netlist_extract.proofs.CallerLemmas.{count_take, count_take-few}
 use Rattle.extracted_machines.proofs.Variables.{most, listed-is, by_cell-first, cell_places-first, on_wire-from, first_of}
 

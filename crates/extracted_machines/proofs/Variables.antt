@@ -1,5 +1,6 @@
 -- The variables of latches and conjunctions rise by one.
-use Rattle.std.proofs.Common.{◌≡◌, ◌⊎◌, ◌+◌, ℕ, suc, Bool, true, false, if◌then◌else◌, ◌==◌, Option, Some, None, List, [], ◌∷◌, ◌++◌, map, length, length-append, take, slice_get, refl, sym, ◌∙◌, ap, subst, inl, inr, arith}
+use Rattle.std.proofs.Common.{◌≡◌, ◌⊎◌, ◌+◌, ℕ, suc, Bool, true, false, if◌then◌else◌, ◌==◌, Option, Some, None, List, [], ◌∷◌, ◌++◌, map, length, length-append, take, slice_get, refl, sym, ◌∙◌}
+use Rattle.std.proofs.Common.{ap, subst, inl, inr, arith}
 use Rattle.std.specs.Prelude.{get_or}
 use Rattle.std.proofs.lemmas.Bool.{cases_Bool}
 use Rattle.std.proofs.lemmas.List.{append_assoc, map-append}
@@ -156,7 +157,8 @@ module _ (net : PlainNetlist) where
 
   pub and-variables : map (λ (and : AndPart). and.variable.number) (ands_of net) ≡ numbers_from (net.inputs + 1 + how_many is_back net.cells) (how_many is_gate net.cells)
   and-variables =
-      numbers-are is_gate (λ c cell. and_of net (gate_variable net c) cell) (λ (and : AndPart). and.variable.number) (gate_variable net) (net.inputs + 1 + how_many is_back net.cells) gate-part no_gate-part
+      numbers-are is_gate (λ c cell. and_of net (gate_variable net c) cell) (λ (and : AndPart). and.variable.number)
+      (gate_variable net) (net.inputs + 1 + how_many is_back net.cells) gate-part no_gate-part
       [] net.cells (λ c. refl) ∙ ap (λ n. numbers_from n (how_many is_gate net.cells)) (omega arith)
 
   map-map : {X Y Z : Type 0} (f : Y → Z) (g : X → Y) (xs : List X) → map f (map g xs) ≡ map (λ x. f (g x)) xs

@@ -11,6 +11,7 @@ use Rattle.netlist_extract.specs.Texts.{variables_in}
 use Rattle.extracted_machines.specs.Machines.{numbers_from, latch_machine, and_machine, machine_by}
 use Rattle.extracted_machines.proofs.CallerLemmas.{length-numbers}
 use Rattle.source_texts.specs.Parts.{latch_from, equation_from, name_given, names_given, machine_from}
+use Rattle.source_texts.proofs.CallerLemmas.{map_both, map_same}
 use Rattle.extracted_sources.specs.Sources.{source_latch, source_and, lettered, parts_of}
 
 numbers_same : (first count : ℕ) → readers.numbers_from first count ≡ numbers_from first count
@@ -55,14 +56,6 @@ or_none : (name : Option (List ℕ)) → option_or name None ≡ name
 or_none None = refl
 or_none (Some bytes) = refl
 
-map_same : {X Y : Type 0} (f g : X → Y) (xs : List X) → ((x : X) → f x ≡ g x) → map f xs ≡ map g xs
-map_same f g [] each = refl
-map_same f g (x ∷ xs) each = ap (λ z. z ∷ map f xs) (each x) ∙ ap (λ l. g x ∷ l) (map_same f g xs each)
-
-map_twice : {X Y Z : Type 0} (f : Y → Z) (g : X → Y) (h : X → Z) (xs : List X) → ((x : X) → f (g x) ≡ h x) → map f (map g xs) ≡ map h xs
-map_twice f g h [] each = refl
-map_twice f g h (x ∷ xs) each = ap (λ z. z ∷ map f (map g xs)) (each x) ∙ ap (λ l. h x ∷ l) (map_twice f g h xs each)
-
 module _ (outline : PlainOutline) where
   input_name : (place : ℕ) → name_given 105 place (parts_of outline).symbols ≡ name_at outline.input_symbols place
   input_name place =
@@ -103,9 +96,9 @@ module _ (outline : PlainOutline) where
       let outputs : ℕ = length (map literal_of outline.outputs) in
       let symbols : List (ℕ × ℕ × List ℕ) = (parts_of outline).symbols in
       ap (λ l. machine_with l (map equation_from (map source_and outline.ands)) (names_given 105 inputs symbols) (names_given 111 outputs symbols))
-      (map_twice latch_from source_latch latch_machine outline.latches (λ latch. refl))
+      (map_both latch_from source_latch latch_machine outline.latches (λ latch i. refl))
       ∙ ap (λ e. machine_with (map latch_machine outline.latches) e (names_given 105 inputs symbols) (names_given 111 outputs symbols))
-      (map_twice equation_from source_and and_machine outline.ands (λ and. refl))
+      (map_both equation_from source_and and_machine outline.ands (λ and i. refl))
       ∙ ap (λ n. machine_with (map latch_machine outline.latches) (map and_machine outline.ands) n (names_given 111 outputs symbols))
       (names_same 105 inputs outline.inputs outline.input_symbols (length-numbers 1 outline.inputs) input_name)
       ∙ ap (machine_with (map latch_machine outline.latches) (map and_machine outline.ands) (map (name_at outline.input_symbols) (numbers_from 0 outline.inputs)))

@@ -14,6 +14,7 @@ use Rattle.netlist_extract.specs.Texts.{literal_word, variable_word, variables_i
 use Rattle.extracted_machines.specs.Machines.{numbers_from}
 use Rattle.extracted_machines.proofs.CallerLemmas.{numbers-last, length-numbers}
 use Rattle.source_texts.specs.Texts.{spaced, line, reset_numbers, header_words, input_words, latch_words, output_words, and_words, symbol_words, body_words, source_text}
+use Rattle.source_texts.proofs.CallerLemmas.{map_both}
 use Rattle.extracted_sources.specs.Sources.{source_latch, source_and, lettered, parts_of}
 
 line_same : (words : List (List ℕ)) → netlist_texts.line_of words ≡ line words
@@ -34,10 +35,6 @@ ports_same (suc count) =
     ∙ ap (λ l. l ++ map outlines.input_words (count ∷ [])) (ports_same count)
     ∙ ap (λ n. map input_words (numbers_from 1 count) ++ (decimal (2 * n) ∷ []) ∷ []) (omega arith)
     ∙ sym (map-append input_words (numbers_from 1 count) ((1 + count) ∷ [])) ∙ ap (map input_words) (sym (numbers-last 1 count))
-
-map_alike : {X Y Z : Type 0} (f : X → Z) (g : X → Y) (h : Y → Z) (xs : List X) → ((x : X) → f x ≡ h (g x)) → map f xs ≡ map h (map g xs)
-map_alike f g h [] each = refl
-map_alike f g h (x ∷ xs) each = ap (λ z. z ∷ map f xs) (each x) ∙ ap (λ l. h (g x) ∷ l) (map_alike f g h xs each)
 
 bit_same : (bit : Bool) → bit_word bit ∷ [] ≡ map decimal (reset_numbers (Some bit))
 bit_same false = ap (λ (w : List ℕ). w ∷ []) (sym (decimal_digit 0 (omega arith)))
@@ -63,9 +60,9 @@ module _ (outline : PlainOutline) where
   symbols_same : symbols_words outline ≡ map symbol_words (parts_of outline).symbols
   symbols_same =
       let ins : List (List (List ℕ)) = map (outlines.symbol_words (codes "i")) outline.input_symbols in
-      ap (λ l. ins ++ l) (map_alike (outlines.symbol_words (codes "o")) (lettered 111) symbol_words outline.output_symbols (λ named. refl))
+      ap (λ l. ins ++ l) (sym (map_both symbol_words (lettered 111) (outlines.symbol_words (codes "o")) outline.output_symbols (λ named i. refl)))
       ∙ ap (λ l. l ++ map symbol_words (map (lettered 111) outline.output_symbols))
-      (map_alike (outlines.symbol_words (codes "i")) (lettered 105) symbol_words outline.input_symbols (λ named. refl))
+      (sym (map_both symbol_words (lettered 105) (outlines.symbol_words (codes "i")) outline.input_symbols (λ named i. refl)))
       ∙ sym (map-append symbol_words (map (lettered 105) outline.input_symbols) (map (lettered 111) outline.output_symbols))
 
   body_same : section_words outline ++ symbols_words outline ≡ body_words (parts_of outline)
@@ -81,9 +78,9 @@ module _ (outline : PlainOutline) where
       let a' : List (List (List ℕ)) = map and_words (map source_and outline.ands) in
       append_assoc i (l ++ (o ++ a)) s ∙ ap (λ x. i ++ x) (append_assoc l (o ++ a) s) ∙ ap (λ x. i ++ (l ++ x)) (append_assoc o a s)
       ∙ ap (λ x. x ++ (l ++ (o ++ (a ++ s)))) (ports_same outline.inputs)
-      ∙ ap (λ x. i' ++ (x ++ (o ++ (a ++ s)))) (map_alike outlines.latch_words source_latch latch_words outline.latches latch_same)
-      ∙ ap (λ x. i' ++ (l' ++ (x ++ (a ++ s)))) (map_alike outlines.output_words literal_of output_words outline.outputs (λ literal. refl))
-      ∙ ap (λ x. i' ++ (l' ++ (o' ++ (x ++ s)))) (map_alike outlines.and_words source_and and_words outline.ands (λ and. refl))
+      ∙ ap (λ x. i' ++ (x ++ (o ++ (a ++ s)))) (sym (map_both latch_words source_latch outlines.latch_words outline.latches (λ latch i. sym (latch_same latch))))
+      ∙ ap (λ x. i' ++ (l' ++ (x ++ (a ++ s)))) (sym (map_both output_words literal_of outlines.output_words outline.outputs (λ literal i. refl)))
+      ∙ ap (λ x. i' ++ (l' ++ (o' ++ (x ++ s)))) (sym (map_both and_words source_and outlines.and_words outline.ands (λ and i. refl)))
       ∙ ap (λ x. i' ++ (l' ++ (o' ++ (a' ++ x)))) symbols_same
 
   pub text_same : aiger_text outline ≡ source_text (parts_of outline)

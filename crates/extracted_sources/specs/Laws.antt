@@ -2,6 +2,7 @@
 use Rattle.std.specs.Prelude.{◌≡◌, ◌≤◌, None, Ok}
 use Rattle.pulse_ids.specs.Quantities.{greatest_of}
 use Rattle.pulse_ids.specs.declared.quantities.Quantity.TheVariants.{Inputs}
+use Rattle.source_machine.specs.Fitting.{Fits}
 use Rattle.source_machine.specs.Grounding.{IsWellFounded}
 use Rattle.source_machine.specs.Machines.{PlainMachine}
 use Rattle.source_machine.specs.declared.unset.Unset.{Unset}
@@ -25,9 +26,11 @@ pub record IsExtracted (net : PlainNetlist) : Type 0 where
 abbrev pub ExtractsAreRead : Type 0
 ExtractsAreRead = (net : PlainNetlist) → IsExtracted net → (unset : Unset) → judgement unset (aiger_text (outline_of net)) ≡ Ok (extracted net)
 
--- The text is that of a well founded machine, and the netlist pulses as this machine's outputs say, in every order:
+-- The text is that of a machine in range, which is well founded, and the netlist pulses as this machine's outputs say, in
+-- every order:
 pub record IsNetlistOf (net : PlainNetlist) (unset : Unset) (machine : PlainMachine) : Type 0 where
   pub judged : judgement unset (aiger_text (outline_of net)) ≡ Ok machine
+  pub fits : Fits machine
   pub founded : IsWellFounded machine
   pub pulses : PulsesAsMachine net machine
 

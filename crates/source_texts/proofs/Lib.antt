@@ -8,5 +8,6 @@ mod Accepting
 mod RightLines
 mod TextLength
 mod ToldMachine
+mod Fitting
 mod ReadBack
 pub mod CallerLemmas

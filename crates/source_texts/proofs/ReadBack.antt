@@ -11,7 +11,8 @@ use Rattle.aiger_reader.specs.Units.{units_after, begun_after}
 use Rattle.aiger_reader.specs.Sections.{kind_after}
 use Rattle.aiger_reader.specs.Sources.{limit, units_of, begun_of, last_unit, all_units, first_refusal, complete, whole_source, unless_shown, judgement}
 use Rattle.source_texts.specs.Parts.{SourceParts, AreInRange, machine_from}
-use Rattle.source_texts.specs.Texts.{spaced, line, input_numbers, latch_numbers, output_numbers, and_numbers, header_words, input_words, latch_words, output_words, and_words, symbol_words, body_words, source_text}
+use Rattle.source_texts.specs.Texts.{spaced, line, input_numbers, latch_numbers, output_numbers, and_numbers, header_words, input_words, latch_words, output_words, and_words, symbol_words}
+use Rattle.source_texts.specs.Texts.{body_words, source_text}
 use Rattle.source_texts.specs.Laws.{SourceTextsAreRead}
 use Rattle.source_texts.proofs.WordLines.{numbers_free}
 use Rattle.source_texts.proofs.WholeLines.{AreWhole, units_on, begun_on, units_are, begun_is, nothing_begun}

@@ -1,5 +1,6 @@
 -- Each line of a text is right.
-use Rattle.std.proofs.Common.{◌≡◌, ℕ, ◌+◌, ◌-◌, ◌*◌, ◌^◌, ◌%◌, ◌≤◌, ◌<◌, Bool, true, false, eqb, leb, List, [], ◌∷◌, ◌++◌, length, length-append, map, Option, Some, None, refl, ◌∙◌, ap, inl, inr, arith}
+use Rattle.std.proofs.Common.{◌≡◌, ℕ, ◌+◌, ◌-◌, ◌*◌, ◌^◌, ◌%◌, ◌≤◌, ◌<◌, Bool, true, false, eqb, leb, List, [], ◌∷◌, ◌++◌, length, length-append, map, Option, Some, None, refl, ◌∙◌, ap, inl, inr}
+use Rattle.std.proofs.Common.{arith}
 use Rattle.std.proofs.lemmas.Bool.{le-leb, eq-eqb}
 use Rattle.std.proofs.lemmas.List.{length-map}
 use Rattle.pulse_ids.specs.Lists.{IsIn}
@@ -14,7 +15,8 @@ use Rattle.aiger_reader.specs.Headers.{header_refusal}
 use Rattle.aiger_reader.specs.Sections.{is_commented, literal_after, section_of, section_refusal, body_refusal, unit_refusal}
 use Rattle.aiger_reader.specs.Sources.{first_refusal}
 use Rattle.source_texts.specs.Parts.{SourceLatch, SourceAnd, SourceParts, IsVariable, IsLatchOf, IsAndOf, AreInRange}
-use Rattle.source_texts.specs.Texts.{line, literal_code, input_numbers, reset_numbers, latch_numbers, output_numbers, and_numbers, header_words, input_words, latch_words, output_words, and_words, symbol_words, body_words}
+use Rattle.source_texts.specs.Texts.{line, literal_code, input_numbers, reset_numbers, latch_numbers, output_numbers, and_numbers, header_words, input_words, latch_words, output_words, and_words}
+use Rattle.source_texts.specs.Texts.{symbol_words, body_words}
 use Rattle.source_texts.proofs.Lists.{map_part, map_map}
 use Rattle.source_texts.proofs.WordLines.{AreSmall, line_numbers}
 use Rattle.source_texts.proofs.SymbolLines.{symbol_right}

@@ -6,7 +6,8 @@ use Rattle.std.proofs.lemmas.Grind.{flat_map-append}
 use Rattle.pulse_ids.specs.Lists.{IsIn}
 use Rattle.aiger_reader.specs.Sources.{limit}
 use Rattle.source_texts.specs.Parts.{SourceParts, AreInRange}
-use Rattle.source_texts.specs.Texts.{spaced, line, header_numbers, reset_numbers, input_numbers, latch_numbers, output_numbers, and_numbers, header_words, input_words, latch_words, output_words, and_words, symbol_words, body_words, source_text}
+use Rattle.source_texts.specs.Texts.{spaced, line, header_numbers, reset_numbers, input_numbers, latch_numbers, output_numbers, and_numbers, header_words, input_words, latch_words, output_words}
+use Rattle.source_texts.specs.Texts.{and_words, symbol_words, body_words, source_text}
 use Rattle.source_texts.proofs.WordLines.{AreSmall}
 use Rattle.source_texts.proofs.SymbolLines.{place_low}
 use Rattle.source_texts.proofs.TextHeader.{header_small}
@@ -74,7 +75,8 @@ module _ (parts : SourceParts) (right : AreInRange parts) where
       let a_long : length (flat_map line a) ≤ 34 * length parts.inputs =
       number_lines input_words parts.inputs (λ net i. numbers_length (input_numbers net) (input_small parts.variables few net (right.each_input net i)) (omega arith)) in
       let b_long : length (flat_map line b) ≤ 34 * length parts.latches =
-      number_lines latch_words parts.latches (λ latch i. numbers_length (latch_numbers latch) (latch_small parts.variables few latch (right.each_latch latch i)) (omega (arith, latch_few latch.reset))) in
+      number_lines latch_words parts.latches (λ latch i. numbers_length (latch_numbers latch) (latch_small parts.variables few latch (right.each_latch latch i))
+      (omega (arith, latch_few latch.reset))) in
       let c_long : length (flat_map line c) ≤ 34 * length parts.outputs =
       number_lines output_words parts.outputs (λ literal i. numbers_length (output_numbers literal) (output_small parts.variables few literal (right.each_output literal i)) (omega arith)) in
       let d_long : length (flat_map line d) ≤ 34 * length parts.ands =

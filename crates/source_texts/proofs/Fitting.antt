@@ -1,5 +1,5 @@
 -- The machine of parts in range is in range.
-use Rattle.std.proofs.Common.{◌≡◌, ℕ, zero, suc, ◌+◌, ◌*◌, ◌≤◌, Bool, true, false, cond, ◌&&◌, eqb, List, [], ◌∷◌, length, map, Option, Some, None, All, refl, ◌∙◌, ap, inl, inr, arith}
+use Rattle.std.proofs.Common.{◌≡◌, ℕ, zero, suc, ◌+◌, ◌*◌, Bool, true, false, cond, ◌&&◌, eqb, List, [], ◌∷◌, length, map, Some, None, All, refl, ◌∙◌, ap, inl, inr, arith}
 use Rattle.std.specs.Prelude.{IfSome}
 use Rattle.std.specs.Option.{option_or}
 use Rattle.std.proofs.lemmas.List.{length-map}
@@ -7,7 +7,6 @@ use Rattle.std.proofs.lemmas.List.Elements.{All-nil, All-cons, All-map}
 use Rattle.pulse_ids.specs.Lists.{IsIn}
 use Rattle.pulse_ids.specs.Names.{IsPortName}
 use Rattle.source_machine.specs.Fitting.{IsNumbered, LiteralFits, LatchFits, EquationFits, NamesFit, size_of_equations, Fits}
-use Rattle.source_machine.specs.Machines.{PlainLiteral}
 use Rattle.aiger_reader.specs.Machines.{numbers_from}
 use Rattle.source_texts.specs.Laws.{SourceMachinesFit}
 use Rattle.source_texts.specs.Parts.{SourceLatch, SourceAnd, SourceParts, IsLatchOf, IsAndOf, IsSymbolOf, AreInRange, latch_from, equation_from, name_given, names_given, machine_from}

@@ -16,7 +16,7 @@ use Rattle.cell_netlist.specs.WireLaws.{DrivingCellsAreUnique}
 use Rattle.cell_netlist.specs.Wired.{IsWired}
 use Rattle.cell_netlist.proofs.CallerLemmas.{driver-is, driver-only, out-driver}
 use Rattle.timed_world.specs.Delays.{PlainDelays, delay_of, kind_of, lag}
-use Rattle.timed_world.specs.Bounding.{DrivenBy}
+use Rattle.timed_world.specs.Bounding.{DrivenBy, IsDriven, cell_of_place}
 use Rattle.timed_world.proofs.LagLemmas.{zero_or_found, lag_of_driver}
 
 -- what stands on an output is driven
@@ -59,21 +59,11 @@ rail_apart net wired rail i c cell at out =
     let same = driver-only net rail.wire wired (Input (numbered r.0)) its.0 (ap (option_map (λ (x : Rail). x.wire)) r.1) its.2 in
     subst (λ p. IsDriverOf p c) (sym same) its.1
 
--- the cell of a driving place
-abbrev pub cell_of_place : Driver → Option ℕ
-cell_of_place (Input id) = None
-cell_of_place (Out id) = Some id.number
-cell_of_place (Left id) = Some id.number
-cell_of_place (Right id) = Some id.number
-cell_of_place (Q id) = Some id.number
-cell_of_place (N id) = Some id.number
-
-pub place_cell : (place : Driver) (id : CellId) → (place ≡ Out id) ⊎ ((place ≡ Left id) ⊎ ((place ≡ Right id) ⊎ ((place ≡ Q id) ⊎ (place ≡ N id)))) → cell_of_place place ≡ Some id.number
-place_cell place id (inl e) = ap cell_of_place e
-place_cell place id (inr (inl e)) = ap cell_of_place e
-place_cell place id (inr (inr (inl e))) = ap cell_of_place e
-place_cell place id (inr (inr (inr (inl e)))) = ap cell_of_place e
-place_cell place id (inr (inr (inr (inr e)))) = ap cell_of_place e
+-- a place of an LA, FA or splitter
+pub gate_place : (place : Driver) (id : CellId) → (place ≡ Out id) ⊎ ((place ≡ Left id) ⊎ (place ≡ Right id)) → cell_of_place place ≡ Some id.number
+gate_place place id (inl e) = ap cell_of_place e
+gate_place place id (inr (inl e)) = ap cell_of_place e
+gate_place place id (inr (inr e)) = ap cell_of_place e
 
 module _ (net : PlainNetlist) (wire : ℕ) where
   pub place_on : (place : Driver) → drivers net wire ≡ place ∷ [] → wire_driven_at net place ≡ Some (numbered wire)
@@ -86,23 +76,8 @@ module _ (net : PlainNetlist) (wire : ℕ) where
       go None f g = absurd cc
       go (Some cell) f g = record { cell = cell; at = f; out = out_of cell place (numbered wire) g }
 
-  -- a cell whose place drives the wire drives it
-  pub driven_by : (place : Driver) (c : ℕ) → drivers net wire ≡ place ∷ [] → cell_of_place place ≡ Some c → DrivenBy net wire c
-  driven_by place c e f = go place (place_on place e) f
-    where
-      it : (id c : ℕ) → Some id ≡ Some c → DrivenBy net wire id → DrivenBy net wire c
-      it id c same d = let s : id ≡ c = cc in subst (DrivenBy net wire) s d
-
-      go : (p : Driver) → wire_driven_at net p ≡ Some (numbered wire) → cell_of_place p ≡ Some c → DrivenBy net wire c
-      go (Input id) on same = absurd cc
-      go (Out id) on same = it id.number c same (found_at id.number (Out id) on)
-      go (Left id) on same = it id.number c same (found_at id.number (Left id) on)
-      go (Right id) on same = it id.number c same (found_at id.number (Right id) on)
-      go (Q id) on same = it id.number c same (found_at id.number (Q id) on)
-      go (N id) on same = it id.number c same (found_at id.number (N id) on)
-
-  pub driving_rail : (id : RailId) → drivers net wire ≡ Input id ∷ [] → (rail : Rail) × IsIn rail net.input_rails × (wire_of rail ≡ wire)
-  driving_rail id e = go (slice_get net.input_rails id.number) refl (place_on (Input id) e)
+  rail_found : (id : RailId) → wire_driven_at net (Input id) ≡ Some (numbered wire) → (rail : Rail) × IsIn rail net.input_rails × (wire_of rail ≡ wire)
+  rail_found id e = go (slice_get net.input_rails id.number) refl e
     where
       go : (found : Option Rail) → slice_get net.input_rails id.number ≡ found → option_map (λ rail. rail.wire) found ≡ Some (numbered wire)
           → (rail : Rail) × IsIn rail net.input_rails × (wire_of rail ≡ wire)
@@ -111,24 +86,35 @@ module _ (net : PlainNetlist) (wire : ℕ) where
           let s : rail.wire ≡ numbered wire = cc in
           (rail, IsIn-place rail net.input_rails id.number f, ap (λ w. w.number) s)
 
+  -- the cell of the place that drives the wire, or else its input rail
+  pub driven_at : (place : Driver) → drivers net wire ≡ place ∷ [] → IsDriven net (Some wire) (cell_of_place place)
+  driven_at place e = go place (place_on place e)
+    where
+      go : (p : Driver) → wire_driven_at net p ≡ Some (numbered wire) → IsDriven net (Some wire) (cell_of_place p)
+      go (Input id) on = rail_found id on
+      go (Out id) on = found_at id.number (Out id) on
+      go (Left id) on = found_at id.number (Left id) on
+      go (Right id) on = found_at id.number (Right id) on
+      go (Q id) on = found_at id.number (Q id) on
+      go (N id) on = found_at id.number (N id) on
+
+  pub driven_by : (place : Driver) (c : ℕ) → drivers net wire ≡ place ∷ [] → cell_of_place place ≡ Some c → DrivenBy net wire c
+  driven_by place c e f = subst (IsDriven net (Some wire)) f (driven_at place e)
+
   pub driven_below : (c : ℕ) → DrivenBy net wire c → c < length net.cells
   driven_below c d = slice_get_within net.cells c d.cell d.at
 
-  module _ (wired : IsWired net) (delays : PlainDelays) where
-    -- what an input rail drives has no delay
-    pub rail_lag : (id : RailId) → drivers net wire ≡ Input id ∷ [] → lag delays net wire ≡ 0
-    rail_lag id e = elim (zero_or_found delays net.cells wire) [
-      | inl none ↦ none.1
-      | inr found ↦
-          let its = out-driver net (numbered wire) found.place found.cell found.at found.out in
-          let same = driver-only net (numbered wire) wired (Input id) its.0 (place_on (Input id) e) its.2 in
-          absurd (subst (λ p. IsDriverOf p found.place) (sym same) its.1)
-    ]
+-- what an input rail drives has no delay
+pub rail_lag : (net : PlainNetlist) → IsWired net → (delays : PlainDelays) (rail : Rail) → IsIn rail net.input_rails → lag delays net (wire_of rail) ≡ 0
+rail_lag net wired delays rail i = elim (zero_or_found delays net.cells (wire_of rail)) [
+  | inl none ↦ none.1
+  | inr found ↦ absurd (rail_apart net wired rail i found.place found.cell found.at found.out)
+]
 
-    pub cell_lag : DrivingCellsAreUnique → (place : Driver) (c : ℕ) (cell : Cell) → drivers net wire ≡ place ∷ [] → cell_of_place place ≡ Some c
-        → slice_get net.cells c ≡ Some cell → lag delays net wire ≡ delay_of delays (kind_of cell)
-    cell_lag unique place c cell e f at =
-        let d = driven_by place c e f in
-        let there = d.at in
-        let same : d.cell ≡ cell = cc in
-        lag_of_driver unique delays net wired wire c cell at (subst (λ x. IsIn wire (outs x)) same d.out)
+-- what a cell drives has the delay of the cell
+pub cell_lag : DrivingCellsAreUnique → (net : PlainNetlist) (wire c : ℕ) → IsWired net → (delays : PlainDelays) (cell : Cell) → DrivenBy net wire c
+    → slice_get net.cells c ≡ Some cell → lag delays net wire ≡ delay_of delays (kind_of cell)
+cell_lag unique net wire c wired delays cell d at =
+    let there = d.at in
+    let same : d.cell ≡ cell = cc in
+    lag_of_driver unique delays net wired wire c cell at (subst (λ x. IsIn wire (outs x)) same d.out)

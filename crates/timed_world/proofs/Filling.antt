@@ -1,10 +1,9 @@
 -- A table of arrivals that is filled along an order of the cells.
-use Rattle.std.proofs.Common.{◌≡◌, ◌≢◌, ◌+◌, ◌*◌, ◌<◌, ◌≤◌, ◌||◌, ℕ, Bool, true, false, eqb, inl, inr, Some, List, [], ◌∷◌, length, max, take, set, replicate, get_or, slice_get, refl, sym, ap, subst, ◌∙◌, arith}
+use Rattle.std.proofs.Common.{◌≡◌, ◌≢◌, ◌+◌, ◌*◌, ◌<◌, ◌≤◌, ℕ, inl, inr, Some, List, [], ◌∷◌, length, max, take, set, replicate, get_or, slice_get, refl, sym, ap, subst, ◌∙◌, arith}
 use Rattle.std.specs.Prelude.{slice_index}
-use Rattle.std.specs.List.{list_any, flat_map}
-use Rattle.std.proofs.lemmas.Bool.{cases_eq, cases_lt, eqb-true}
+use Rattle.std.specs.List.{flat_map}
+use Rattle.std.proofs.lemmas.Bool.{cases_eq, cases_lt}
 use Rattle.std.proofs.lemmas.List.{get_or-set_same, get_or-set_other, get_or-replicate, get_or_past, length-set, length-replicate, take_all}
-use Rattle.std.proofs.lemmas.Map.Steps.{length-le_from_distinct_below}
 use Rattle.pulse_ids.specs.Lists.{IsIn}
 use Rattle.pulse_ids.proofs.CallerLemmas.{IsIn-at, IsIn-taken, contained-IsIn, IsIn-flat_map}
 use Rattle.cell_netlist.specs.declared.lines.Cell.{Cell}
@@ -20,6 +19,7 @@ use Rattle.cell_orders.proofs.CallerLemmas.{at_below, feeding_drives}
 use Rattle.timed_world.specs.ArrivalTables.{place_arrival, first_arrival, table_arrival, cell_arrival, AreCellArrivals, AreUpTo}
 use Rattle.timed_world.specs.Bounds.{entry_of}
 use Rattle.timed_world.specs.declared.kinds.Kind.TheVariants as kinds
+use Rattle.timed_world.proofs.FewNumbers.{few_distinct}
 use Rattle.timed_world.specs.Delays.{PlainDelays, AreWithin, delay_of, kind_of}
 
 -- the table is right for the cells that have come
@@ -52,14 +52,6 @@ entry_same value other (Fa a b out) kind same =
     ap (λ x. max x (value b.number)) (same a.number (inl refl)) ∙ ap (λ y. max (other a.number) y) (same b.number (inr (inl refl)))
 entry_same value other (Split from left right) kind same = same from.number (inl refl)
 entry_same value other (Droc role preload feed q n) kind same = refl
-
-any_in : (q : ℕ) (xs : List ℕ) → list_any (eqb q) xs ≡ true → IsIn q xs
-any_in q [] e = absurd cc
-any_in q (x ∷ xs) e = go (eqb q x) refl e (any_in q xs)
-  where
-    go : (b : Bool) → eqb q x ≡ b → (b || list_any (eqb q) xs) ≡ true → (list_any (eqb q) xs ≡ true → IsIn q xs) → IsIn q (x ∷ xs)
-    go true t e rest = inl (sym (eqb-true q x t))
-    go false t e rest = inr (rest e)
 
 -- another value for a cell leaves the arrival at a place that is none of its outputs
 place_same : (delays : PlainDelays) (table : List ℕ) (c value : ℕ) (place : Driver) → (IsIn c (passing_at place) → ⊥)
@@ -95,7 +87,7 @@ module _ (delays : PlainDelays) (within : AreWithin delays) (net : PlainNetlist)
   item_at_low i low = (h.cells (slice_index order i)).0 (IsIn-at order i 0 low)
 
   pub items_few : length order ≤ length net.cells
-  items_few = length-le_from_distinct_below order (length net.cells) h.once (λ q e. (h.cells q).0 (any_in q order e))
+  items_few = few_distinct order (length net.cells) h.once (λ c. (h.cells c).0)
 
   module _ (i : ℕ) (low : i < length order) (cell : Cell) (at : slice_get net.cells (slice_index order i) ≡ Some cell)
       (table : List ℕ) (r : FilledTo delays net order i table) where

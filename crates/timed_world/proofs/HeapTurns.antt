@@ -29,7 +29,8 @@ module _ (x : Reverse ℕ) (old new : List (Reverse ℕ)) (time wire : ℕ) (is 
     (bound : AllByRecursion (λ (y : Reverse ℕ). is_lt (nat_cmp y.0 x.0) ≡ false) old) where
   counts : (n : ℕ) → occurrences n (map (λ (t : Reverse ℕ). t.0) old) ≡ occurrences n (map (λ (t : Reverse ℕ). t.0) new) + one_if (n == turn time wire)
   counts n =
-      let moved : one_if (n == x.0) + occurrences n (map (λ (t : Reverse ℕ). t.0) new) ≡ occurrences n (map (λ (t : Reverse ℕ). t.0) old) = mapped-permutation (λ (t : Reverse ℕ). t.0) old (x ∷ new) moves n in
+      let moved : one_if (n == x.0) + occurrences n (map (λ (t : Reverse ℕ). t.0) new) ≡ occurrences n (map (λ (t : Reverse ℕ). t.0) old) =
+      mapped-permutation (λ (t : Reverse ℕ). t.0) old (x ∷ new) moves n in
       let test : one_if (n == turn time wire) ≡ one_if (n == x.0) = ap (λ k. one_if (n == k)) is in omega (arith, moved, test)
 
   pub first_taken : IsFirstTaken (map (λ (t : Reverse ℕ). t.0) old) time wire (map (λ (t : Reverse ℕ). t.0) new)

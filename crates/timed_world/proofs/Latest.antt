@@ -7,15 +7,15 @@ use Rattle.std.proofs.lemmas.List.{append_assoc, reverse-append, reverse-reverse
 use Rattle.pulse_ids.specs.Ids.{WireId, CellId}
 use Rattle.pulse_ids.specs.Lists.{IsIn, occurrences}
 use Rattle.pulse_ids.proofs.CallerLemmas.{IsIn-append, IsIn-place}
-use Rattle.pulse_ids.proofs.CallerLemmasOnCounts.{occurrences-absent, once_more}
+use Rattle.pulse_ids.proofs.CallerLemmasOnCounts.{once_more}
 use Rattle.cell_netlist.specs.declared.lines.Cell.{Cell}
 use Rattle.cell_netlist.specs.declared.lines.Cell.TheVariants.{La, Fa, Split, Droc}
 use Rattle.cell_netlist.specs.Netlists.{PlainNetlist, number_of_wires}
-use Rattle.pulse_world.proofs.Counts.{few}
 use Rattle.timed_world.specs.Bounding.{IsLatestBelow, DrivenBy, IsDriven, numbers_of}
 use Rattle.timed_world.specs.Bounds.{entry_of, comes_by, LeadsBack, AreArrivals, PlainBound, bound_of, IsBound}
 use Rattle.timed_world.specs.Delays.{PlainDelays, AreWithin, delay_of, kind_of}
 use Rattle.timed_world.proofs.DrivingCells.{driven_below}
+use Rattle.timed_world.proofs.FewNumbers.{few_once}
 
 -- the first wire alone
 pub latest_one : (arrival : ℕ → ℕ) → IsLatestBelow arrival 1 0
@@ -106,8 +106,9 @@ back_begun delays net arrival last low = record {
   later = λ c i. absurd i;
 }
 
-pub back_few : (delays : PlainDelays) (net : PlainNetlist) (arrival : ℕ → ℕ) (last : ℕ) (cells : List ℕ) (next : Option ℕ) → BackTo delays net arrival last cells next → length cells ≤ length net.cells
-back_few delays net arrival last cells next b = few cells (length net.cells) b.once (λ c le. occurrences-absent c cells (λ i. let l = b.low c i in absurd (omega arith)))
+pub back_few : (delays : PlainDelays) (net : PlainNetlist) (arrival : ℕ → ℕ) (last : ℕ) (cells : List ℕ) (next : Option ℕ)
+    → BackTo delays net arrival last cells next → length cells ≤ length net.cells
+back_few delays net arrival last cells next b = few_once cells (length net.cells) b.once b.low
 
 pub back_done : (delays : PlainDelays) (net : PlainNetlist) (arrival : ℕ → ℕ) (last : ℕ) (cells : List ℕ) (next : Option ℕ) → BackTo delays net arrival last cells next
     → IsDriven net next None → LeadsBack net arrival (Some last) cells

@@ -6,16 +6,16 @@ use Rattle.pulse_ids.specs.Lists.{IsIn}
 use Rattle.pulse_ids.proofs.CallerLemmas.{IsIn-place, place_of}
 use Rattle.cell_netlist.specs.declared.lines.Cell.{Cell}
 use Rattle.cell_netlist.specs.declared.lines.Cell.TheVariants.{La, Fa, Split, Droc}
-use Rattle.cell_netlist.specs.Netlists.{PlainNetlist, wire_of, outs, reads, number_of_wires, IsDroc, Grounded, of_rail, of_droc, of_gate}
+use Rattle.cell_netlist.specs.Netlists.{PlainNetlist, outs, reads, number_of_wires, IsDroc, Grounded, of_rail, of_droc, of_gate}
 use Rattle.cell_netlist.specs.Sound.{IsSound}
 use Rattle.cell_netlist.specs.WireLaws.{DrivingCellsAreUnique, WiresAreGrounded}
 use Rattle.cell_netlist.proofs.CallerLemmas.{named_below}
 use Rattle.timed_world.specs.Bounds.{PlainBound, entry_of, comes_by, AreArrivals, LeadsBack, IsLatestPath}
 use Rattle.timed_world.specs.Delays.{PlainDelays, delay_of, kind_of}
 use Rattle.timed_world.specs.Laws.{OneBound, LagsOfRails, LagsOfCells, EmissionsHaveLags}
-use Rattle.timed_world.proofs.DrivingCells.{rail_apart}
+use Rattle.timed_world.proofs.DrivingCells.{rail_apart, rail_lag}
 use Rattle.timed_world.proofs.Filling.{entry_same}
-use Rattle.timed_world.proofs.LagLemmas.{zero_or_found, lag_of_driver}
+use Rattle.timed_world.proofs.LagLemmas.{lag_of_driver}
 use Rattle.timed_world.proofs.WithinBound.{cells_pass}
 
 entry_droc : (value : ℕ → ℕ) (cell : Cell) → IsDroc cell → entry_of value cell ≡ 0
@@ -80,10 +80,7 @@ one_bound unique grounded net sound delays one other p q =
     one_latest unique net sound p.arrival q.arrival (λ wire lt. agree delays net p.arrival q.arrival p.arrivals q.arrivals wire (grounded net sound wire lt)) p.latest q.latest one other p.is q.is
 
 pub lags_of_rails : LagsOfRails
-lags_of_rails net sound delays rail i = elim (zero_or_found delays net.cells (wire_of rail)) [
-  | inl none ↦ none.1
-  | inr found ↦ absurd (rail_apart net sound.wired rail i found.place found.cell found.at found.out)
-]
+lags_of_rails net sound delays rail i = rail_lag net sound.wired delays rail i
 
 pub lags_of_cells : DrivingCellsAreUnique → LagsOfCells
 lags_of_cells unique net sound delays cell i wire out =

@@ -1,5 +1,5 @@
 -- A table of the cells' arrivals gives those of the wires.
-use Rattle.std.proofs.Common.{◌≡◌, ◌≤◌, ℕ, inl, inr, Some, List, [], ◌∷◌, length, get_or, slice_get, refl, sym, ap, subst, ◌∙◌, arith}
+use Rattle.std.proofs.Common.{◌⊎◌, ◌≡◌, ◌≤◌, ℕ, inl, inr, Some, List, [], ◌∷◌, length, get_or, slice_get, refl, sym, ap, subst, ◌∙◌, arith}
 use Rattle.std.specs.Prelude.{option_and_then}
 use Rattle.pulse_ids.specs.Ids.{WireId, CellId, numbered}
 use Rattle.pulse_ids.specs.Lists.{IsIn}
@@ -23,6 +23,13 @@ only_one x [] i few = absurd i
 only_one x (y ∷ []) (inl e) few = ap (λ z. z ∷ []) e
 only_one x (y ∷ []) (inr i) few = absurd i
 only_one x (y ∷ z ∷ xs) i few = absurd (omega arith)
+
+-- at a place of an LA, FA or splitter the arrival stands in the table
+pub gate_arrival : (delays : PlainDelays) (table : List ℕ) (place : Driver) (id : CellId) → (place ≡ Out id) ⊎ ((place ≡ Left id) ⊎ (place ≡ Right id))
+    → place_arrival delays table place ≡ get_or table id.number 0
+gate_arrival delays table place id (inl e) = ap (place_arrival delays table) e
+gate_arrival delays table place id (inr (inl e)) = ap (place_arrival delays table) e
+gate_arrival delays table place id (inr (inr e)) = ap (place_arrival delays table) e
 
 no_droc_out : (wire : WireId) (x : Cell) (id : CellId) → output_at x (Out id) ≡ Some wire → IsDroc x → ⊥
 no_droc_out wire (La a b o) id e d = d

@@ -1,7 +1,8 @@
 -- A timed phase under way, and one delivery more.
-use Rattle.std.proofs.Common.{◌≡◌, ◌+◌, ◌-◌, ◌*◌, ◌^◌, ◌<◌, ◌≤◌, ◌⊎◌, ℕ, zero, suc, Bool, true, false, inl, inr, List, [], ◌∷◌, ◌++◌, length, drop, set, get_or, refl, sym, ap, subst, ◌∙◌, arith, ◌==◌, if◌then◌else◌}
+use Rattle.std.proofs.Common.{◌≡◌, ◌+◌, ◌-◌, ◌*◌, ◌^◌, ◌<◌, ◌≤◌, ◌⊎◌, ◌==◌, if◌then◌else◌, ℕ, zero, suc, Bool, true, false, inl, inr}
+use Rattle.std.proofs.Common.{List, [], ◌∷◌, ◌++◌, length, drop, refl, sym, ap, subst, ◌∙◌, arith}
 use Rattle.std.specs.List.{swap_remove}
-use Rattle.std.proofs.lemmas.List.{length-map, length-append, length-take-le, length-set, append_assoc}
+use Rattle.std.proofs.lemmas.List.{length-map, length-append, append_assoc}
 use Rattle.std.proofs.lemmas.Option.{slice_get_within}
 use Rattle.std.proofs.lemmas.Bool.{cases_eq}
 use Rattle.std.proofs.lemmas.Grind.{common_steps}
@@ -11,7 +12,7 @@ use Rattle.pulse_ids.proofs.CallerLemmasOnCounts.{occurrences-append, occurrence
 use Rattle.cell_netlist.specs.Netlists.{PlainNetlist}
 use Rattle.cell_netlist.specs.World.{State, deliver, Delivered}
 use Rattle.cell_netlist.proofs.CallerLemmasOnSums.{map-on}
-use Rattle.pulse_world.specs.Reacting.{emitted_at}
+use Rattle.pulse_world.specs.WirePulses.{EmitsBehind, DeliveriesEmitBehind}
 use Rattle.pulse_world.specs.Worlds.{PlainWorld, state_of}
 use Rattle.schedule_replay.specs.Settling.{DeliversAll, Anywhere}
 use Rattle.schedule_replay.proofs.CallerLemmas.{one_more}
@@ -123,11 +124,8 @@ flip a b = elim (cases_eq a b) [
   | inr ne ↦ let s = test_other a b ne in let t = test_other b a (λ e. ne (sym e)) in omega arith
 ]
 
-length-removed : (xs : List ℕ) (place d : ℕ) → length (swap_remove xs place d) ≡ length xs - 1
-length-removed xs place d = length-take-le (length xs - 1) (set xs place (get_or xs (length xs - 1) d)) (let s = length-set xs place (get_or xs (length xs - 1) d) in omega arith)
-
--- One delivery more.
-module _ (delays : PlainDelays) (within : AreWithin delays) (start : PlainWorld) (wires : List ℕ) (now : ℕ) (world : PlainWorld) (turns : List ℕ)
+-- One delivery more. What it emits stands last in the queue.
+module _ (emits : DeliveriesEmitBehind) (delays : PlainDelays) (within : AreWithin delays) (start : PlainWorld) (wires : List ℕ) (now : ℕ) (world : PlainWorld) (turns : List ℕ)
     (way : Underway delays start wires now world turns) (small : (wire : ℕ) → IsIn wire world.queue → wire < 2 ^ 22) (time wire : ℕ) (between : List ℕ)
     (takes : IsFirstTaken turns time wire between) (next : PlainWorld) (turns_then : List ℕ) (one : DeliversOne delays time wire world next between turns_then)
     (once : (w : ℕ) → occurrences w next.queue ≤ 1) where
@@ -137,8 +135,11 @@ module _ (delays : PlainDelays) (within : AreWithin delays) (start : PlainWorld)
   abbrev kept : List ℕ
   kept = swap_remove world.queue one.place 0
 
+  behind : EmitsBehind world next one.place w0
+  behind = emits world next one.place w0 one.delivers
+
   abbrev fresh : List ℕ
-  fresh = emitted_at world.net.cells world.cell_states one.delivers.reader
+  fresh = behind.emitted
 
   abbrev due_then : ℕ → ℕ
   due_then = due_after delays start.net (state_of world) way.due w0
@@ -147,7 +148,7 @@ module _ (delays : PlainDelays) (within : AreWithin delays) (start : PlainWorld)
   is_due = taken_due way.due world turns between way.tied small time wire takes
 
   queue_counts : (n : ℕ) → occurrences n next.queue ≡ occurrences n kept + occurrences n fresh
-  queue_counts n = ap (occurrences n) one.delivers.queue ∙ occurrences-append n kept fresh
+  queue_counts n = ap (occurrences n) behind.queue ∙ occurrences-append n kept fresh
 
   -- what the definition says is emitted stands last in the queue
   fresh_counts : (n : ℕ) → occurrences n (emitted start.net (state_of world) w0) ≡ occurrences n fresh
@@ -175,10 +176,13 @@ module _ (delays : PlainDelays) (within : AreWithin delays) (start : PlainWorld)
       if_some (occurrences other (emitted start.net (state_of world) w0)) (way.due other) (way.due w0 + lag delays start.net other) (let f = fresh_counts other in omega arith) ∙ omega arith
 
   kept_length : length kept ≡ length world.queue - 1
-  kept_length = length-removed world.queue one.place 0
+  kept_length =
+      let count = behind.count in
+      let all = ap length behind.queue in
+      let parts = length-append kept fresh in omega arith
 
   last_are : drop (length world.queue - 1) next.queue ≡ fresh
-  last_are = ap (drop (length world.queue - 1)) one.delivers.queue ∙ drop-front kept fresh (length world.queue - 1) kept_length
+  last_are = ap (drop (length world.queue - 1)) behind.queue ∙ drop-front kept fresh (length world.queue - 1) kept_length
 
   turns_kept : turns_of due_then kept ≡ turns_of way.due kept
   turns_kept = map-on (λ w. turn (due_then w) w) (λ w. turn (way.due w) w) kept (λ w i. ap (λ t. turn t w) (due_kept w i))
@@ -194,7 +198,7 @@ module _ (delays : PlainDelays) (within : AreWithin delays) (start : PlainWorld)
       let tied = way.tied.0 n in
       let removed = mapped-removed (λ w. turn (way.due w) w) world.queue one.place w0 0 one.delivers.at n in
       let test : one_if (n == turn (way.due w0) w0) ≡ one_if (n == turn time w0) = ap (λ t. one_if (n == turn t w0)) is_due in
-      let whole = ap (λ ws. occurrences n (turns_of due_then ws)) one.delivers.queue in
+      let whole = ap (λ ws. occurrences n (turns_of due_then ws)) behind.queue in
       let parts = occurrences-turns due_then kept fresh n in
       let left = ap (occurrences n) turns_kept in
       let right = ap (occurrences n) turns_fresh in omega arith
@@ -208,7 +212,7 @@ module _ (delays : PlainDelays) (within : AreWithin delays) (start : PlainWorld)
       let tied = way.tied.1 in
       let all = length-map world.queue (λ w. turn (way.due w) w) in
       let whole = length-map next.queue (λ w. turn (due_then w) w) in
-      let queue = ap length one.delivers.queue in
+      let queue = ap length behind.queue in
       let parts = length-append kept fresh in
       let inside = slice_get_within world.queue one.place w0 one.delivers.at in
       let count = kept_length in omega arith

@@ -97,9 +97,7 @@ pub(crate) fn arrival(
 {
     match net.driver(wire) {
         Driver::Input(_) => 0,
-        Driver::Out(id) => *table.get(id),
-        Driver::Left(id) => *table.get(id),
-        Driver::Right(id) => *table.get(id),
+        Driver::Out(id) | Driver::Left(id) | Driver::Right(id) => *table.get(id),
         Driver::Q(_) => delays.of(Kind::Droc),
         Driver::N(_) => delays.of(Kind::Droc),
     }

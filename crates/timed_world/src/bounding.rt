@@ -10,8 +10,9 @@ ghost use Rattle.timed_world.specs.Bounding.{BoundBy, IsDriven, IsLatestFound, n
 use crate::arrivals::{arrival, arrival_table};
 use crate::bounds::Bound;
 use crate::delays::{Delay, Delays, KindDelays};
+use crate::drivers::driver_cell;
 use crate::kinds::Kind;
-use cell_netlist::{Cell, Driver, SoundNet, places_of_wires, readers_of_wires};
+use cell_netlist::{Cell, SoundNet, readers_of_wires};
 use cell_orders::cell_order;
 use pulse_ids::{CellId, Ident, NoMemory, Row, WireId};
 use std::alloc::Global;
@@ -110,35 +111,21 @@ fn cells_back_from(
     let _few = net.net().wires();
     let mut cells = Vec::new(alloc);
     let mut wire = Some(last);
-    while let Some(id) = driving_cell(net, wire) {
+    while let Some(id) = next_back(net, wire) {
         cells.push(id)?;
         wire = comes_by(net, delays, table, *net.net().cells().get(id));
     }
     Ok(cells)
 }
 
-/// The cell that drives a wire. None for no wire, or where an input rail drives it.
-fn driving_cell(net: &SoundNet, wire: Option<WireId>) -> Option<CellId>
+/// The cell before a wire on the way back. None for no wire, or where an input rail drives it.
+fn next_back(net: &SoundNet, wire: Option<WireId>) -> Option<CellId>
     requires { IfSome wire (λ wire. wire.number < number_of_wires net.now) }
     ensures { IsDriven net.now (option_map (λ wire. wire.number) wire) (option_map (λ id. id.number) result) }
 {
-    places_of_wires();
     match wire {
-        Some(wire) => cell_driving(net, wire),
+        Some(wire) => driver_cell(net, wire),
         None => None,
-    }
-}
-
-/// The cell that drives a wire. None where an input rail does.
-fn cell_driving(net: &SoundNet, wire: WireId) -> Option<CellId>
-    requires { wire.number < number_of_wires net.now }
-    ensures { IsDriven net.now (Some wire.number) (option_map (λ id. id.number) result) }
-{
-    places_of_wires();
-    match net.driver(wire) {
-        Driver::Input(_) => None,
-        Driver::Out(id) | Driver::Left(id) | Driver::Right(id) | Driver::Q(id) | Driver::N(id) =>
-            Some(id),
     }
 }
 

@@ -2,56 +2,25 @@ use Rattle.std.proofs.Common.{◌∙◌, ◌∷◌, [], sym, ap, arith}
 use Rattle.std.proofs.lemmas.Option.{get_or_from_slice_get}
 use Rattle.cell_netlist.specs.declared.lines.Driver.{Driver}
 use Rattle.timed_world.specs.ArrivalTables.{first_arrival}
-use Rattle.timed_world.proofs.DrivingCells.{driven_by, driven_below, cell_of_place}
+use Rattle.timed_world.proofs.DrivingCells.{driven_by, driven_below, gate_place}
+use Rattle.timed_world.proofs.TableArrivals.{gate_arrival}
 use Rattle.timed_world.proofs.arrivals.arrival.Goals as goal
 
 pub get-requires : goal.get-requires
 get-requires c =
-    let d = driven_by c.args.net.now c.args.wire.number c.driver.result c.in-Out.id.number c.driver.ensures (ap cell_of_place c.in-Out.is) in
+    let d = driven_by c.args.net.now c.args.wire.number c.driver.result c.in-Out.id.number c.driver.ensures (gate_place c.driver.result c.in-Out.id c.in-Out.is) in
     let low = driven_below c.args.net.now c.args.wire.number c.in-Out.id.number d in
     let width = c.requires.width in omega (arith, low, width)
 
 pub returns-in-Out-clause-value : goal.returns-in-Out-clause-value
 returns-in-Out-clause-value c =
-    sym (ap (first_arrival c.args.delays.now c.args.table.now) (c.driver.ensures ∙ ap (λ (p : Driver). p ∷ []) c.in-Out.is)
+    sym (ap (first_arrival c.args.delays.now c.args.table.now) c.driver.ensures ∙ gate_arrival c.args.delays.now c.args.table.now c.driver.result c.in-Out.id c.in-Out.is
     ∙ get_or_from_slice_get c.args.table.now c.in-Out.id.number c.get.result.now 0 c.get.ensures)
 
 pub returns-in-Out-clause-small : goal.returns-in-Out-clause-small
 returns-in-Out-clause-small c =
     let most = c.requires.small c.in-Out.id.number in
     let is = get_or_from_slice_get c.args.table.now c.in-Out.id.number c.get.result.now 0 c.get.ensures in omega (arith, most, is)
-
-pub get-requires-in-Left : goal.get-requires-in-Left
-get-requires-in-Left c =
-    let d = driven_by c.args.net.now c.args.wire.number c.driver.result c.in-Left.id.number c.driver.ensures (ap cell_of_place c.in-Left.is) in
-    let low = driven_below c.args.net.now c.args.wire.number c.in-Left.id.number d in
-    let width = c.requires.width in omega (arith, low, width)
-
-pub returns-in-Left-clause-value : goal.returns-in-Left-clause-value
-returns-in-Left-clause-value c =
-    sym (ap (first_arrival c.args.delays.now c.args.table.now) (c.driver.ensures ∙ ap (λ (p : Driver). p ∷ []) c.in-Left.is)
-    ∙ get_or_from_slice_get c.args.table.now c.in-Left.id.number c.get-in-Left.result.now 0 c.get-in-Left.ensures)
-
-pub returns-in-Left-clause-small : goal.returns-in-Left-clause-small
-returns-in-Left-clause-small c =
-    let most = c.requires.small c.in-Left.id.number in
-    let is = get_or_from_slice_get c.args.table.now c.in-Left.id.number c.get-in-Left.result.now 0 c.get-in-Left.ensures in omega (arith, most, is)
-
-pub get-requires-in-Right : goal.get-requires-in-Right
-get-requires-in-Right c =
-    let d = driven_by c.args.net.now c.args.wire.number c.driver.result c.in-Right.id.number c.driver.ensures (ap cell_of_place c.in-Right.is) in
-    let low = driven_below c.args.net.now c.args.wire.number c.in-Right.id.number d in
-    let width = c.requires.width in omega (arith, low, width)
-
-pub returns-in-Right-clause-value : goal.returns-in-Right-clause-value
-returns-in-Right-clause-value c =
-    sym (ap (first_arrival c.args.delays.now c.args.table.now) (c.driver.ensures ∙ ap (λ (p : Driver). p ∷ []) c.in-Right.is)
-    ∙ get_or_from_slice_get c.args.table.now c.in-Right.id.number c.get-in-Right.result.now 0 c.get-in-Right.ensures)
-
-pub returns-in-Right-clause-small : goal.returns-in-Right-clause-small
-returns-in-Right-clause-small c =
-    let most = c.requires.small c.in-Right.id.number in
-    let is = get_or_from_slice_get c.args.table.now c.in-Right.id.number c.get-in-Right.result.now 0 c.get-in-Right.ensures in omega (arith, most, is)
 
 pub returns-in-Input-clause-value : goal.returns-in-Input-clause-value
 returns-in-Input-clause-value c =

@@ -73,4 +73,12 @@ returns-clause-small c place =
     let items = ap (λ (l : List ℕ). length l) c.items-item-items.ensures in
     let few : length c.args.net.now.cells ≤ most_lines =
     subst (λ (n : PlainNetlist). length n.cells ≤ most_lines) c.net.ensures.net c.wires-few.ensures.lines.cells in
-    omega (arith, items, few, items_few c.args.delays.now c.range.ensures c.args.net.now c.args.order.now.items c.requires, c.loop-item.invariant.small place, c.loop-item-test.false, c.loop-item.auto.item-index-end)
+    omega (
+      arith,
+      items,
+      few,
+      items_few c.args.delays.now c.range.ensures c.args.net.now c.args.order.now.items c.requires,
+      c.loop-item.invariant.small place,
+      c.loop-item-test.false,
+      c.loop-item.auto.item-index-end,
+    )

@@ -18,7 +18,8 @@ returns-in_default c =
     let none : c.latest.result ≡ None = none_is c.latest.result c.in_default.not-Some in
     none_bound c.args.delays.now c.args.net.now (table_arrival c.args.delays.now c.args.net.now c.args.table.now)
     (arrivals_are c.readers_of_wires.ensures.places c.args.net.now c.net.ensures.sound c.args.delays.now c.args.table.now c.requires.arrivals) c.new-in_default.result
-    (subst (λ (o : Option WireId). IsLatestFound c.args.net.now (table_arrival c.args.delays.now c.args.net.now c.args.table.now) (number_of_wires c.args.net.now) (option_map (λ (w : WireId). w.number) o)) none
+    (subst (λ (o : Option WireId). IsLatestFound c.args.net.now (table_arrival c.args.delays.now c.args.net.now c.args.table.now) (number_of_wires c.args.net.now)
+    (option_map (λ (w : WireId). w.number) o)) none
     c.latest.ensures)
     (c.new-in_default.ensures ∙ ap (bound_of 0) c.new.ensures.items)
 
@@ -27,6 +28,7 @@ returns c =
     bound_is c.args.delays.now c.args.net.now (table_arrival c.args.delays.now c.args.net.now c.args.table.now)
     (arrivals_are c.readers_of_wires.ensures.places c.args.net.now c.net.ensures.sound c.args.delays.now c.args.table.now c.requires.arrivals) c.in-Some.last.number c.arrival.result
     c.in_ok-cells.cells.items c.reverse.new.self.items c.new-2.result
-    (subst (λ (o : Option WireId). IsLatestFound c.args.net.now (table_arrival c.args.delays.now c.args.net.now c.args.table.now) (number_of_wires c.args.net.now) (option_map (λ (w : WireId). w.number) o)) c.in-Some.is
+    (subst (λ (o : Option WireId). IsLatestFound c.args.net.now (table_arrival c.args.delays.now c.args.net.now c.args.table.now) (number_of_wires c.args.net.now)
+    (option_map (λ (w : WireId). w.number) o)) c.in-Some.is
     c.latest.ensures)
     c.in_ok-cells.ensures.path c.arrival.ensures.value c.reverse.ensures.items c.new-2.ensures

@@ -27,7 +27,7 @@ loop-id-smaller c =
     step_shorter c.args.delays.now c.range.ensures c.args.net.now (table_arrival c.args.delays.now c.args.net.now c.args.table.now)
     (arrivals_are c.readers_of_wires.ensures.places c.args.net.now c.net.ensures.sound c.args.delays.now c.args.table.now c.requires.arrivals) c.args.last.number
     (numbers_of c.loop-id.cells.items) (option_map (λ (w : WireId). w.number) c.loop-id.wire) c.loop-id.invariant c.in-Some.id.number
-    (subst (λ (o : Option CellId). IsDriven c.args.net.now (option_map (λ (w : WireId). w.number) c.loop-id.wire) (option_map (λ (x : CellId). x.number) o)) c.in-Some.is c.driving_cell.ensures)
+    (subst (λ (o : Option CellId). IsDriven c.args.net.now (option_map (λ (w : WireId). w.number) c.loop-id.wire) (option_map (λ (x : CellId). x.number) o)) c.in-Some.is c.next_back.ensures)
     c.get.result.now at (option_map (λ (w : WireId). w.number) c.comes_by-wire.result) c.comes_by-wire.ensures.value
     (below_some (number_of_wires c.args.net.now) c.comes_by-wire.result c.comes_by-wire.ensures.below)
 
@@ -43,7 +43,7 @@ loop-id-preserved c =
     (step_more c.args.delays.now c.range.ensures c.args.net.now (table_arrival c.args.delays.now c.args.net.now c.args.table.now)
     (arrivals_are c.readers_of_wires.ensures.places c.args.net.now c.net.ensures.sound c.args.delays.now c.args.table.now c.requires.arrivals) c.args.last.number
     (numbers_of c.loop-id.cells.items) (option_map (λ (w : WireId). w.number) c.loop-id.wire) c.loop-id.invariant c.in-Some.id.number
-    (subst (λ (o : Option CellId). IsDriven c.args.net.now (option_map (λ (w : WireId). w.number) c.loop-id.wire) (option_map (λ (x : CellId). x.number) o)) c.in-Some.is c.driving_cell.ensures)
+    (subst (λ (o : Option CellId). IsDriven c.args.net.now (option_map (λ (w : WireId). w.number) c.loop-id.wire) (option_map (λ (x : CellId). x.number) o)) c.in-Some.is c.next_back.ensures)
     c.get.result.now at (option_map (λ (w : WireId). w.number) c.comes_by-wire.result) c.comes_by-wire.ensures.value
     (below_some (number_of_wires c.args.net.now) c.comes_by-wire.result c.comes_by-wire.ensures.below))
 
@@ -53,10 +53,10 @@ none_is (Some x) some = absurd (some x cc)
 
 pub returns-clause-path : goal.returns-clause-path
 returns-clause-path c =
-    let none : c.driving_cell.result ≡ None = none_is c.driving_cell.result c.in_default.not-Some in
+    let none : c.next_back.result ≡ None = none_is c.next_back.result c.in_default.not-Some in
     back_done c.args.delays.now c.args.net.now (table_arrival c.args.delays.now c.args.net.now c.args.table.now) c.args.last.number (numbers_of c.loop-id.cells.items)
     (option_map (λ (w : WireId). w.number) c.loop-id.wire) c.loop-id.invariant
-    (subst (λ (o : Option CellId). IsDriven c.args.net.now (option_map (λ (w : WireId). w.number) c.loop-id.wire) (option_map (λ (x : CellId). x.number) o)) none c.driving_cell.ensures)
+    (subst (λ (o : Option CellId). IsDriven c.args.net.now (option_map (λ (w : WireId). w.number) c.loop-id.wire) (option_map (λ (x : CellId). x.number) o)) none c.next_back.ensures)
 
 pub returns-clause-few : goal.returns-clause-few
 returns-clause-few c =

@@ -1,5 +1,6 @@
 -- Runs that are computed.
-use Rattle.std.proofs.Common.{◌≡◌, ◌≤◌, ◌+◌, ◌-◌, ℕ, Bool, true, false, ◌==◌, nat_le, Option, Some, None, is_some, unwrap_or, option_and_then, List, [], ◌∷◌, ◌++◌, map, reverse, slice_get, sym, subst, inl, inr, arith, refl, if◌then◌else◌}
+use Rattle.std.proofs.Common.{◌≡◌, ◌≤◌, ◌+◌, ◌-◌, ℕ, Bool, true, false, ◌==◌, nat_le, Option, Some, None, is_some, unwrap_or, option_and_then, List, [], ◌∷◌, ◌++◌, map, reverse, slice_get, sym}
+use Rattle.std.proofs.Common.{subst, inl, inr, arith, refl, if◌then◌else◌}
 use Rattle.std.proofs.lemmas.Bool.{cases_lt, cases_Bool, eqb-true, leb-true}
 use Rattle.cell_netlist.specs.declared.kinds.Held.{Held}
 use Rattle.cell_netlist.specs.declared.kinds.Held.TheVariants.{Rest, HasA, HasB}

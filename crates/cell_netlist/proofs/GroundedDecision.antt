@@ -7,7 +7,8 @@ use Rattle.cell_netlist.specs.declared.lines.Cell.TheVariants.{La, Fa, Split, Dr
 use Rattle.pulse_ids.specs.Lists.{IsIn}
 use Rattle.cell_netlist.specs.Netlists.{PlainNetlist, outs, reads, IsDroc, Grounded, of_droc}
 use Rattle.cell_netlist.specs.Decisions as decisions
-use Rattle.cell_netlist.specs.Decisions.{is_some_with, has, is_ready, known_through, known_after, are_outs_known, source_of, splitter_above, climbs_to, number_on, fits_role, link_of, differ, have_right_preloads, is_none_driven_twice, is_sound, AreDecisionsOfRules}
+use Rattle.cell_netlist.specs.Decisions.{is_some_with, has, is_ready, known_through, known_after, are_outs_known, source_of, splitter_above, climbs_to, number_on, fits_role, link_of, differ}
+use Rattle.cell_netlist.specs.Decisions.{have_right_preloads, is_none_driven_twice, is_sound, AreDecisionsOfRules}
 use Rattle.cell_netlist.specs.LeanDecisions.{how_many}
 use Rattle.pulse_ids.proofs.CallerLemmas.{IsIn-left, IsIn-right}
 use Rattle.cell_netlist.proofs.ListLemmas.{list_all-at, list_all-from, has-at, has-from}

@@ -12,7 +12,8 @@ use Rattle.pulse_ids.specs.Lists.{IsIn, HowManyHave, ceil_log2}
 use Rattle.cell_netlist.specs.Netlists.{PlainNetlist, wire_of, outs, number_of_wires, IsRoot}
 use Rattle.cell_netlist.specs.Lean.{ReadsRoots, IsSamePair, AreRailsOfOnePort, AreOutputsOfOneDroc, IsConstant, IsOutputOfConstant, reads_of_leaf, leaves, IsLean}
 use Rattle.cell_netlist.specs.Decisions.{has, is_same_sign, droc_outs, is_none_driven_twice}
-use Rattle.cell_netlist.specs.LeanDecisions.{how_many, climbed, root_of, is_all_rooted, useful_after, is_same_pair, have_other_roots, are_both_rails, are_rails_of_one_port, are_outputs_of_one_droc, constant_outs, is_output_of_constant, are_lean_roots, is_lean_gate, is_balanced_at, is_lean}
+use Rattle.cell_netlist.specs.LeanDecisions.{how_many, climbed, root_of, is_all_rooted, useful_after, is_same_pair, have_other_roots, are_both_rails, are_rails_of_one_port}
+use Rattle.cell_netlist.specs.LeanDecisions.{are_outputs_of_one_droc, constant_outs, is_output_of_constant, are_lean_roots, is_lean_gate, is_balanced_at, is_lean}
 use Rattle.pulse_ids.proofs.CallerLemmas.{IsIn-left, IsIn-place, IsIn-flat_map}
 use Rattle.cell_netlist.proofs.ListLemmas.{all_below-at, list_all-at, list_any-from, all_pairs-at, has-at, has-from}
 use Rattle.cell_netlist.proofs.SoundDecisions.{same_sign-at, droc_outs-is}

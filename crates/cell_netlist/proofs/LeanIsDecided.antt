@@ -13,7 +13,8 @@ use Rattle.cell_netlist.specs.Netlists.{PlainNetlist, outs, number_of_wires, IsD
 use Rattle.cell_netlist.specs.Sound.{IsSound}
 use Rattle.cell_netlist.specs.Lean.{ReadsRoots, IsSamePair, AreRailsOfOnePort, AreOutputsOfOneDroc, IsConstant, IsOutputOfConstant, leaves, IsLean}
 use Rattle.cell_netlist.specs.Decisions.{has, droc_outs, is_none_driven_twice}
-use Rattle.cell_netlist.specs.LeanDecisions.{how_many, root_of, is_all_rooted, useful_after, is_same_pair, have_other_roots, are_both_rails, are_rails_of_one_port, are_outputs_of_one_droc, constant_outs, is_output_of_constant, are_lean_roots, is_lean_gate, is_balanced_at, has_all_below, is_lean}
+use Rattle.cell_netlist.specs.LeanDecisions.{how_many, root_of, is_all_rooted, useful_after, is_same_pair, have_other_roots, are_both_rails, are_rails_of_one_port, are_outputs_of_one_droc}
+use Rattle.cell_netlist.specs.LeanDecisions.{constant_outs, is_output_of_constant, are_lean_roots, is_lean_gate, is_balanced_at, has_all_below, is_lean}
 use Rattle.pulse_ids.proofs.CallerLemmas.{IsIn-place}
 use Rattle.cell_netlist.proofs.ListLemmas.{all_below-from, list_all-from, list_any-at, all_pairs-from, has-at, has-from}
 use Rattle.cell_netlist.proofs.SoundDecisions.{same_sign-from}

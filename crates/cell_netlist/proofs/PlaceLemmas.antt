@@ -1,5 +1,6 @@
 -- Places on a wire, and what a pulse does at them.
-use Rattle.std.proofs.Common.{◌≡◌, ◌+◌, ◌-◌, ◌⊎◌, ℕ, suc, ◌==◌, Option, Some, None, List, [], ◌∷◌, ◌++◌, map, length, slice_index, slice_set, append-nil, ap, sym, ◌∙◌, subst, inl, inr, arith, refl, if◌then◌else◌}
+use Rattle.std.proofs.Common.{◌≡◌, ◌+◌, ◌-◌, ◌⊎◌, ℕ, suc, ◌==◌, Option, Some, None, List, [], ◌∷◌, ◌++◌, map, length, slice_index, slice_set, append-nil, ap, sym, ◌∙◌, subst, inl, inr, arith}
+use Rattle.std.proofs.Common.{refl, if◌then◌else◌}
 use Rattle.std.specs.List.{flat_map}
 use Rattle.std.proofs.lemmas.Bool.{cases_Bool, ne_eqb}
 use Rattle.std.proofs.Math.Path.{fun_ext}

@@ -8,11 +8,13 @@ use Rattle.cell_netlist.specs.declared.lines.Reader.{Reader}
 use Rattle.cell_netlist.specs.declared.lines.Reader.TheVariants.{A, B, From, Feed, Output}
 use Rattle.pulse_ids.specs.Lists.{IsIn}
 use Rattle.cell_netlist.specs.Netlists.{PlainNetlist, outs, reads}
-use Rattle.cell_netlist.specs.Places.{driving, reading, cell_places, rail_places, drivers, readers, IsDriverOf, IsReaderOf, output_at, input_at, output_of, input_of, rail_wire, wire_driven_at, wire_read_at}
+use Rattle.cell_netlist.specs.Places.{driving, reading, cell_places, rail_places, drivers, readers, IsDriverOf, IsReaderOf, output_at, input_at, output_of, input_of, rail_wire, wire_driven_at}
+use Rattle.cell_netlist.specs.Places.{wire_read_at}
 use Rattle.cell_netlist.specs.Wired.{IsWired}
 use Rattle.cell_netlist.proofs.PlaceLemmas.{drivers-count, readers-count}
 use Rattle.cell_netlist.proofs.WireLemmas.{driven_once, read_once}
-use Rattle.cell_netlist.proofs.PlaceWires.{same_wire, stepped-from, mapped-from, rail_place-at, rail_place-from, cell_place-at, cell_place-from, on_wire-parts, on_wire-left, on_wire-right, driving-at, reading-at, driving-from, reading-from, out-place, read-place}
+use Rattle.cell_netlist.proofs.PlaceWires.{same_wire, stepped-from, mapped-from, rail_place-at, rail_place-from, cell_place-at, cell_place-from, on_wire-parts, on_wire-left, on_wire-right}
+use Rattle.cell_netlist.proofs.PlaceWires.{driving-at, reading-at, driving-from, reading-from, out-place, read-place}
 
 -- two items of a list of at most one item are the same
 only_item : {X : Type 0} (xs : List X) (x y : X) → length xs ≤ 1 → IsIn x xs → IsIn y xs → x ≡ y

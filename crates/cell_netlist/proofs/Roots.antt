@@ -1,5 +1,6 @@
 -- A wire has one root, which the climb finds.
-use Rattle.std.proofs.Common.{◌≡◌, ◌<◌, ◌≤◌, ◌+◌, ℕ, zero, suc, true, nat_lt, Option, Some, None, is_some, option_map, unwrap_or, List, [], ◌∷◌, map, length, ap, sym, ◌∙◌, subst, inl, inr, arith, refl}
+use Rattle.std.proofs.Common.{◌≡◌, ◌<◌, ◌≤◌, ◌+◌, ℕ, zero, suc, true, nat_lt, Option, Some, None, is_some, option_map, unwrap_or, List, [], ◌∷◌, map, length, ap, sym, ◌∙◌, subst, inl, inr}
+use Rattle.std.proofs.Common.{arith, refl}
 use Rattle.std.specs.List.{flat_map}
 use Rattle.std.proofs.lemmas.Bool.{or_left, or_right, eq-eqb, cases_eq, cases_lt, cases_Bool, ltb-true}
 use Rattle.cell_netlist.specs.declared.lines.Cell.{Cell}

@@ -1,5 +1,6 @@
 -- The decisions on soundness tell the rules.
-use Rattle.std.proofs.Common.{◌≡◌, ◌<◌, ◌≤◌, ◌↔◌, slice_get, ℕ, zero, suc, Bool, true, false, not, ◌&&◌, ◌==◌, nat_lt, Option, Some, None, is_none, List, [], ◌∷◌, ◌++◌, map, length, ap, sym, ◌∙◌, subst, inl, inr, arith, refl, if◌then◌else◌}
+use Rattle.std.proofs.Common.{◌≡◌, ◌<◌, ◌≤◌, ◌↔◌, slice_get, ℕ, zero, suc, Bool, true, false, not, ◌&&◌, ◌==◌, nat_lt, Option, Some, None, is_none, List, [], ◌∷◌, ◌++◌, map, length, ap, sym}
+use Rattle.std.proofs.Common.{◌∙◌, subst, inl, inr, arith, refl, if◌then◌else◌}
 use Rattle.std.specs.List.{flat_map, list_any, list_all}
 use Rattle.std.proofs.lemmas.Bool.{and_parts, and_from, or_cases, eqb-true, eq-eqb, cases_Bool, ltb-true, lt-ltb, true≢false}
 use Rattle.pulse_ids.specs.Ids.{WireId}
@@ -14,7 +15,8 @@ use Rattle.cell_netlist.specs.Netlists.{PlainNetlist, wire_of, outs, reads, driv
 use Rattle.cell_netlist.specs.RailEquations.{is_front_to, is_back_from, preload_of}
 use Rattle.cell_netlist.specs.Sound.{IsOn, IsDrocOf, HasQ, FitsRole, IsFrontTo, IsBackFrom, IsSound}
 use Rattle.cell_netlist.specs.Decisions as decisions
-use Rattle.cell_netlist.specs.Decisions.{all_below, all_pairs, is_some_with, has, is_same_sign, are_other_rails, droc_outs, is_ready, known_through, known_after, are_outs_known, splits_to, source_of, splitter_above, climbs_to, number_on, fits_role, link_of, differ, have_right_preloads, are_ports_below, is_no_rail_twice, is_sound}
+use Rattle.cell_netlist.specs.Decisions.{all_below, all_pairs, is_some_with, has, is_same_sign, are_other_rails, droc_outs, is_ready, known_through, known_after, are_outs_known, splits_to}
+use Rattle.cell_netlist.specs.Decisions.{source_of, splitter_above, climbs_to, number_on, fits_role, link_of, differ, have_right_preloads, are_ports_below, is_no_rail_twice, is_sound}
 use Rattle.pulse_ids.proofs.CallerLemmas.{IsIn-append, IsIn-from_map, IsIn-from_flat_map}
 use Rattle.cell_netlist.proofs.ListLemmas.{all_below-at, all_below-from, list_all-at, list_all-from, list_any-at, all_pairs-at, all_pairs-from, is_some_with-at, has-at}
 use Rattle.cell_netlist.proofs.StateDecisions.{states-is}

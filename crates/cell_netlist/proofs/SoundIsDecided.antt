@@ -11,9 +11,11 @@ use Rattle.cell_netlist.specs.Netlists.{PlainNetlist, SplittersBelow}
 use Rattle.cell_netlist.specs.RailEquations.{is_front_to, is_back_from, preload_of}
 use Rattle.cell_netlist.specs.Sound.{IsOn, IsDrocOf, HasQ, FitsRole, IsFrontTo, IsBackFrom, IsSound}
 use Rattle.cell_netlist.specs.Decisions as decisions
-use Rattle.cell_netlist.specs.Decisions.{is_some_with, has, is_ready, known_through, known_after, are_outs_known, source_of, splitter_above, climbs_to, number_on, fits_role, link_of, differ, have_right_preloads, is_none_driven_twice, is_sound, AreDecisionsOfRules}
+use Rattle.cell_netlist.specs.Decisions.{is_some_with, has, is_ready, known_through, known_after, are_outs_known, source_of, splitter_above, climbs_to, number_on, fits_role, link_of, differ}
+use Rattle.cell_netlist.specs.Decisions.{have_right_preloads, is_none_driven_twice, is_sound, AreDecisionsOfRules}
 use Rattle.cell_netlist.proofs.ListLemmas.{list_all-from, list_any-from, is_some_with-at}
-use Rattle.cell_netlist.proofs.SoundDecisions.{SplittersBelow-one_more, splitter_above-at, back-at, back-from, all_driven-is, none_driven_twice-is, all_read-is, none_read_twice-is, input_ports-is, output_ports-is, none_twice-is, grounded-at, roles-at, preloads-at}
+use Rattle.cell_netlist.proofs.SoundDecisions.{SplittersBelow-one_more, splitter_above-at, back-at, back-from, all_driven-is, none_driven_twice-is, all_read-is, none_read_twice-is}
+use Rattle.cell_netlist.proofs.SoundDecisions.{input_ports-is, output_ports-is, none_twice-is, grounded-at, roles-at, preloads-at}
 use Rattle.cell_netlist.proofs.StateDecisions.{states-is}
 use Rattle.cell_netlist.proofs.Roots.{Splits-test, enough, above_is, last_of}
 use Rattle.cell_netlist.proofs.GroundedDecision.{grounded-from}

@@ -50,8 +50,8 @@ module _ (net : PlainNetlist) where
       apart = λ k line at_line before. other_cells-at before.1 line (all_pairs-at name_other_cells net.states both.1 before.0 k before.1 line before.2 before.3 at_line) before.4;
     },
     λ right. and_from _ _
-    (list_all-from (names_back net.cells) net.states (λ line among. names_back-from line (right.backs line among)))
-    (all_pairs-from name_other_cells net.states (λ i j line other lt at_i at_j. other_cells-from line other (λ same. right.apart j other at_j (i, line, lt, at_i, same)))),
+        (list_all-from (names_back net.cells) net.states (λ line among. names_back-from line (right.backs line among)))
+        (all_pairs-from name_other_cells net.states (λ i j line other lt at_i at_j. other_cells-from line other (λ same. right.apart j other at_j (i, line, lt, at_i, same)))),
   )
 
   -- whether a state line names a back

@@ -53,7 +53,7 @@ kept_with_state net wires line kept two limit above cell = record {
     input_names = kept.netlist.input_names;
     output_names = kept.netlist.output_names;
     states = subst (λ version. AreStatesOf version (net.states ++ line ∷ [])) (sym two)
-    (AreStatesFrom-behind 0 net.states line (subst (λ version. AreStatesOf version net.states) two kept.netlist.states) (omega arith) above limit cell);
+        (AreStatesFrom-behind 0 net.states line (subst (λ version. AreStatesOf version net.states) two kept.netlist.states) (omega arith) above limit cell);
   };
   few = record { input_rails = kept.few.input_rails; cells = kept.few.cells; output_rails = kept.few.output_rails };
   wires_are = kept.wires_are;

@@ -1,5 +1,6 @@
 -- Decisions that compute, one for each rule of soundness.
-use Rattle.std.specs.Prelude.{◌≡◌, ◌↔◌, ◌≤◌, ◌<◌, ℕ, zero, suc, Bool, true, false, not, ◌&&◌, ◌||◌, Option, Some, None, List, [], ◌∷◌, ◌++◌, map, length, slice_get, is_none, option_map, unwrap_or, nat_lt, if◌then◌else◌, ◌==◌}
+use Rattle.std.specs.Prelude.{◌≡◌, ◌↔◌, ◌≤◌, ◌<◌, ℕ, zero, suc, Bool, true, false, not, ◌&&◌, ◌||◌, Option, Some, None, List, [], ◌∷◌, ◌++◌, map, length, slice_get, is_none, option_map}
+use Rattle.std.specs.Prelude.{unwrap_or, nat_lt, if◌then◌else◌, ◌==◌}
 use Rattle.std.specs.List.{flat_map, list_any, list_all}
 use Rattle.pulse_ids.specs.Ids.{WireId}
 use Rattle.pulse_ids.specs.declared.literals.Sign.{Sign}

@@ -9,7 +9,8 @@ use Rattle.cell_netlist.specs.declared.unsound.Unsound.{Unsound}
 use Rattle.cell_netlist.specs.declared.unsound.Unsound.TheVariants.{WireUndriven, WireTwiceDriven, WireUnread, WireTwiceRead, PortRange, RailTwice, Loop, LooseDroc, WrongPreload, LooseState}
 use Rattle.cell_netlist.specs.Netlists.{PlainNetlist, with_states}
 use Rattle.cell_netlist.specs.Sound.{IsFirstUnsound, rule_of}
-use Rattle.cell_netlist.specs.Decisions.{is_all_driven, is_none_driven_twice, is_all_read, is_none_read_twice, are_ports_below, is_no_rail_twice, is_all_grounded, is_all_fitting, is_all_complement, are_states_right}
+use Rattle.cell_netlist.specs.Decisions.{is_all_driven, is_none_driven_twice, is_all_read, is_none_read_twice, are_ports_below, is_no_rail_twice, is_all_grounded, is_all_fitting}
+use Rattle.cell_netlist.specs.Decisions.{is_all_complement, are_states_right}
 use Rattle.cell_netlist.specs.ExampleNetlists.{droc, la, looped, on, plain, rail, split, state, toggle, two_rails, unused}
 
 -- the decisions in the order of the rules

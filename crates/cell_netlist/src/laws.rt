@@ -6,7 +6,8 @@ ghost use Rattle.cell_netlist.specs.LeanLaws.{UsefulIsDecided, LeanIsDecided, So
 ghost use Rattle.cell_netlist.specs.LeanDecisions.{RootsAreUnique, RootsAreClimbed, ClimbsEndAtRoots, LeanDecisionIsRight};
 ghost use Rattle.cell_netlist.specs.RootBits.{WiresCarryRootBits};
 ghost use Rattle.cell_netlist.specs.Text.{TextsAreNoPrefixes};
-ghost use Rattle.cell_netlist.specs.WireLaws.{NamedWiresAreBelow, DriversAreOnTheirWires, ReadersAreOnTheirWires, OutsHavePlaces, ReadsHavePlaces, DriversAreUnique, ReadersAreUnique, DrivingCellsAreUnique, ReadingCellsAreUnique, WiresAreGrounded, WiresHaveRoots, AnotherFeedLeavesRest};
+ghost use Rattle.cell_netlist.specs.WireLaws.{NamedWiresAreBelow, DriversAreOnTheirWires, ReadersAreOnTheirWires, OutsHavePlaces, ReadsHavePlaces, DriversAreUnique, ReadersAreUnique};
+ghost use Rattle.cell_netlist.specs.WireLaws.{DrivingCellsAreUnique, ReadingCellsAreUnique, WiresAreGrounded, WiresHaveRoots, AnotherFeedLeavesRest};
 ghost use Rattle.cell_netlist.specs.MoreLines.{MoreCellsAdd, MoreInputAdds, MoreOutputAdds};
 ghost use Rattle.cell_netlist.specs.OneReader.{PlacesAreCounted, DeliveryIsToReader, MomentsKeepShape};
 

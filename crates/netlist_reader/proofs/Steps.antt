@@ -19,7 +19,8 @@ use Rattle.netlist_reader.specs.declared.refusals.NetRefusal.{NetRefusal}
 use Rattle.netlist_reader.specs.declared.refusals.NetRefusal.TheVariants as refusals
 use Rattle.netlist_reader.specs.Statements.{statement_in}
 use Rattle.netlist_reader.specs.Limits.{limit_of}
-use Rattle.netlist_reader.specs.Places.{rank, section_of, rank_by, input_by, cell_by, output_by, state_by, input_name_by, output_name_by, version_of, ports_by, inputs_of, outputs_of, netlist_in, follows_lines, fits_behind, stands_after, refusal_by, line_refusal, is_end_by, is_end, has_end}
+use Rattle.netlist_reader.specs.Places.{rank, section_of, rank_by, input_by, cell_by, output_by, state_by, input_name_by, output_name_by, version_of, ports_by, inputs_of, outputs_of, netlist_in}
+use Rattle.netlist_reader.specs.Places.{follows_lines, fits_behind, stands_after, refusal_by, line_refusal, is_end_by, is_end, has_end}
 use Rattle.netlist_reader.specs.Building.{follows, inputs_after, with_statement, has_ended_by, has_ended, start, allows, after_statement, unless_over, read_by, line_read}
 use Rattle.netlist_reader.proofs.Bools.{and_parts, and_true, and_false}
 

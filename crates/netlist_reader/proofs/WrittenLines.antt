@@ -18,7 +18,8 @@ use Rattle.netlist_reader.specs.declared.statements.Statement.{Statement}
 use Rattle.netlist_reader.specs.declared.statements.Statement.TheVariants.{Version, Ports, Input, OneCell, Output, State, InputName, OutputName, End}
 use Rattle.netlist_reader.specs.Words.{after_space, name_in, sign_of, role_of, bit_of, wire_in, output_in}
 use Rattle.netlist_reader.specs.Statements.{ports_in, rail_in, state_in, named_in, three_in, droc_in, statement_by, statement_in}
-use Rattle.netlist_reader.proofs.WrittenWords.{word_read, word_passed, meaning_read, sign_plain, role_plain, bit_plain, number_plain, FitsOutput, output_plain, name_free, sign_read, role_read, bit_read, wire_read, output_read}
+use Rattle.netlist_reader.proofs.WrittenWords.{word_read, word_passed, meaning_read, sign_plain, role_plain, bit_plain, number_plain, FitsOutput, output_plain, name_free, sign_read, role_read}
+use Rattle.netlist_reader.proofs.WrittenWords.{bit_read, wire_read, output_read}
 
 -- words parted by one space
 abbrev pub spaced : List (List ℕ) → List ℕ

@@ -28,7 +28,8 @@ use Rattle.netlist_reader.proofs.Lines.{passed_over}
 use Rattle.netlist_reader.proofs.Texts.{done, lines_read, built_by, early_is}
 use Rattle.netlist_reader.proofs.WrittenLines.{spaced, line_is, head_read, end_read, ports_line_read}
 use Rattle.netlist_reader.proofs.Sections.{Leads, all_added, one_read, free_more, section_read}
-use Rattle.netlist_reader.proofs.NetParts.{input_written, cell_written, output_written, states_written, states_added, input_name_written, output_name_written, inputs_added, cells_added, outputs_added, input_names_added, output_names_added, input_names_in, output_names_in}
+use Rattle.netlist_reader.proofs.NetParts.{input_written, cell_written, output_written, states_written, states_added, input_name_written, output_name_written, inputs_added, cells_added}
+use Rattle.netlist_reader.proofs.NetParts.{outputs_added, input_names_added, output_names_added, input_names_in, output_names_in}
 use Rattle.netlist_reader.proofs.RisingLatches.{StatesFit, state_now, state_next, states_fit_first}
 use Rattle.netlist_reader.proofs.RisingPorts.{InputsFit, OutputsFit, input_now, output_now, input_next, output_next, fit_first}
 

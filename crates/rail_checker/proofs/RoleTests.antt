@@ -1,5 +1,6 @@
 -- DROCs that don't fit their roles, and backs with the preload of their fronts.
-use Rattle.std.proofs.Common.{◌≡◌, ℕ, ◌<◌, ◌≤◌, inl, inr, List, ◌++◌, Option, Some, None, slice_get, get_or, Bool, true, false, not, ◌&&◌, ◌==◌, is_none, is_some, refl, sym, ap, subst, ◌∙◌, arith, eq-eqb}
+use Rattle.std.proofs.Common.{◌≡◌, ℕ, ◌<◌, ◌≤◌, inl, inr, List, ◌++◌, Option, Some, None, slice_get, get_or, Bool, true, false, not, ◌&&◌, ◌==◌, is_none, is_some, refl, sym, ap, subst, ◌∙◌}
+use Rattle.std.proofs.Common.{arith, eq-eqb}
 use Rattle.std.proofs.lemmas.Bool.{eqb-true, cases_Bool}
 use Rattle.pulse_ids.specs.Ids.{WireId, numbered}
 use Rattle.pulse_ids.specs.Lists.{IsIn}

@@ -1,5 +1,6 @@
 -- Input rails, the constant and the trees of inputs, one rail after the other.
-use Rattle.std.proofs.Common.{◌≡◌, ◌≤◌, ◌<◌, ◌+◌, ◌*◌, ◌-◌, ◌/◌, ◌^◌, ℕ, suc, Bool, true, false, Some, List, [], ◌∷◌, ◌++◌, map, length, slice_get, nat_lt, ap, sym, subst, ◌∙◌, refl, arith, append_assoc, append-nil, if◌then◌else◌}
+use Rattle.std.proofs.Common.{◌≡◌, ◌≤◌, ◌<◌, ◌+◌, ◌*◌, ◌-◌, ◌/◌, ◌^◌, ℕ, suc, Bool, true, false, Some, List, [], ◌∷◌, ◌++◌, map, length, slice_get, nat_lt, ap, sym, subst, ◌∙◌, refl, arith}
+use Rattle.std.proofs.Common.{append_assoc, append-nil, if◌then◌else◌}
 use Rattle.std.specs.List.{flat_map, range_with_len}
 use Rattle.std.proofs.lemmas.Bool.{lt-ltb}
 use Rattle.std.proofs.lemmas.Grind.{flat_map-append}

@@ -1,5 +1,6 @@
 -- Output rails, and the end.
-use Rattle.std.proofs.Common.{◌≡◌, ◌≤◌, ◌<◌, inl, inr, ℕ, zero, suc, Bool, false, Option, Some, List, [], ◌∷◌, ◌++◌, map, length, slice_get, slice_index_or, get_or, ◌-◌, ap, sym, subst, ◌∙◌, refl, arith}
+use Rattle.std.proofs.Common.{◌≡◌, ◌≤◌, ◌<◌, inl, inr, ℕ, zero, suc, Bool, false, Option, Some, List, [], ◌∷◌, ◌++◌, map, length, slice_get, slice_index_or, get_or, ◌-◌, ap, sym, subst, ◌∙◌}
+use Rattle.std.proofs.Common.{refl, arith}
 use Rattle.std.specs.Prelude.{option_map, unwrap_or}
 use Rattle.pulse_ids.specs.Ids.{NodeLit, numbered}
 use Rattle.pulse_ids.specs.declared.literals.Sign.{Sign}

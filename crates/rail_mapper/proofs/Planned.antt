@@ -1,5 +1,6 @@
 -- A rail is needed just where some line reads it.
-use Rattle.std.proofs.Common.{◌≡◌, ◌<◌, ◌+◌, ◌-◌, ◌/◌, ◌%◌, ◌==◌, inl, inr, ◌||◌, ℕ, zero, suc, Bool, true, false, Option, Some, None, List, [], ◌++◌, map, slice_get, ap, sym, subst, ◌∙◌, refl, arith, if◌then◌else◌, Contains, IsTrue}
+use Rattle.std.proofs.Common.{◌≡◌, ◌<◌, ◌+◌, ◌-◌, ◌/◌, ◌%◌, ◌==◌, inl, inr, ◌||◌, ℕ, zero, suc, Bool, true, false, Option, Some, None, List, [], ◌++◌, map, slice_get, ap, sym, subst, ◌∙◌, refl}
+use Rattle.std.proofs.Common.{arith, if◌then◌else◌, Contains, IsTrue}
 use Rattle.std.specs.List.{range_with_len}
 use Rattle.std.proofs.lemmas.Bool.{eqb-true, eqb-false, or_cases, or_left, or_right}
 use Rattle.pulse_ids.specs.Ids.{NodeLit}

@@ -12,6 +12,7 @@ use crate::bounds::Bound;
 use crate::delays::{Delay, Delays, KindDelays};
 use crate::drivers::driver_cell;
 use crate::kinds::Kind;
+use crate::laws::bounds_are_small;
 use cell_netlist::{Cell, SoundNet, readers_of_wires};
 use cell_orders::cell_order;
 use pulse_ids::{CellId, Ident, NoMemory, Row, WireId};
@@ -22,17 +23,20 @@ use std::alloc::Global;
 ///
 /// The path is found backwards, from the driver of the lowest wire of the greatest arrival. Before a splitter stands the
 /// driver of its input, before an LA or FA that of port a, unless port b has the greater arrival. It begins with a DROC,
-/// or behind an input rail. It takes time and memory linear in the lines of the netlist, and fails only for want of
-/// memory.
+/// or behind an input rail. The bound is in picoseconds, and below 2^33. It takes time and memory linear in the lines of
+/// the netlist, and fails only for want of memory.
 pub fn bound<F: Fn(Kind) -> u64 + Delay>(
     alloc: Global,
     net: &SoundNet,
     delays: &Delays<F>,
 ) -> Result<Bound, NoMemory>
-    ensures { IfOk result (λ bound. BoundBy (F.Delay.gives delays.now) net.now bound) }
+    ensures bound { IfOk result (λ bound. BoundBy (F.Delay.gives delays.now) net.now bound) }
+    ensures small { IfOk result (λ bound. bound.time < 2 ^ 33) }
 {
+    bounds_are_small();
     let delays = KindDelays::read(delays);
     delays.range();
+    let _ = net.net().wires();
     let order = cell_order(alloc, net)?;
     let table = arrival_table(alloc, net, &delays, &order)?;
     bound_by(alloc, net, &delays, &table)

@@ -46,7 +46,8 @@ pub append-requires : goal.append-requires
 append-requires c =
     let v = c.loop-time.invariant in
     let next = step c.pulses_on_wires.ensures.queue c.args.delays.now c.range.ensures c.args.world.now c.loop-time.log.wires c.loop-time.now c.loop-time.world c.loop-time.times.turns v.way
-    v.small c.in-Some.time c.in-Some.wire.number c.take.new.self.turns c.in-Some.ensures.taken c.deliver_next.new.world c.deliver_next.new.times.turns c.deliver_next.ensures.one c.phase-in-Some.ensures.once in
+    v.small c.in-Some.time c.in-Some.wire.number c.take.new.self.turns c.in-Some.ensures.taken c.deliver_next.new.world c.deliver_next.new.times.turns c.deliver_next.ensures.one
+    c.phase-in-Some.ensures.once in
     let few = c.deliveries_in_turn.ensures.few (c.loop-time.log.wires ++ c.in-Some.wire.number ∷ []) c.args.world.now c.deliver_next.new.world c.phase.ensures.world next.made in
     let longer = length-append c.loop-time.log.wires (c.in-Some.wire.number ∷ []) in
     let net = ap number_of_wires c.requires.world in
@@ -57,7 +58,8 @@ pub loop-time-smaller : goal.loop-time-smaller
 loop-time-smaller c =
     let v = c.loop-time.invariant in
     let next = step c.pulses_on_wires.ensures.queue c.args.delays.now c.range.ensures c.args.world.now c.loop-time.log.wires c.loop-time.now c.loop-time.world c.loop-time.times.turns v.way
-    v.small c.in-Some.time c.in-Some.wire.number c.take.new.self.turns c.in-Some.ensures.taken c.deliver_next.new.world c.deliver_next.new.times.turns c.deliver_next.ensures.one c.phase-in-Some.ensures.once in
+    v.small c.in-Some.time c.in-Some.wire.number c.take.new.self.turns c.in-Some.ensures.taken c.deliver_next.new.world c.deliver_next.new.times.turns c.deliver_next.ensures.one
+    c.phase-in-Some.ensures.once in
     let few = c.deliveries_in_turn.ensures.few (c.loop-time.log.wires ++ c.in-Some.wire.number ∷ []) c.args.world.now c.deliver_next.new.world c.phase.ensures.world next.made in
     let longer = length-append c.loop-time.log.wires (c.in-Some.wire.number ∷ []) in
     let is = ap (λ (l : PlainLog). length l.wires) c.append.ensures in omega (arith, few, longer, is)
@@ -66,7 +68,8 @@ pub loop-time-preserved : goal.loop-time-preserved
 loop-time-preserved c =
     let v = c.loop-time.invariant in
     let next = step c.pulses_on_wires.ensures.queue c.args.delays.now c.range.ensures c.args.world.now c.loop-time.log.wires c.loop-time.now c.loop-time.world c.loop-time.times.turns v.way
-    v.small c.in-Some.time c.in-Some.wire.number c.take.new.self.turns c.in-Some.ensures.taken c.deliver_next.new.world c.deliver_next.new.times.turns c.deliver_next.ensures.one c.phase-in-Some.ensures.once in
+    v.small c.in-Some.time c.in-Some.wire.number c.take.new.self.turns c.in-Some.ensures.taken c.deliver_next.new.world c.deliver_next.new.times.turns c.deliver_next.ensures.one
+    c.phase-in-Some.ensures.once in
     let limit = c.pending_len.ensures.limit in
     let net = ap number_of_wires next.net in
     record {

@@ -4,7 +4,7 @@ use Rattle.timed_texts.proofs.timings.Timing.new.Goals as goal
 pub returns : goal.returns
 returns g c =
     let times = c.in_ok-cycles.ensures in
-    let by = c.in_ok-bound.ensures in
+    let by = c.in_ok-bound.ensures.bound in
     let timing = timing_of c.in_ok-cycles.cycles.items c.in_ok-bound.bound in
     let is : IsTiming by.delays c.args.net.now c.args.vectors.now.vectors timing = record { last = times.0; times = times.1 by.delays by.given; bounds = by.is } in
     record {

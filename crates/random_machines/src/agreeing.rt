@@ -3,7 +3,7 @@
 ghost use Rattle.std.specs.Prelude.{◌≡◌, ◌≤◌};
 
 use crate::building::{Draw, grounded, netlist_of, random_machine};
-use crate::runs::cycle_agrees;
+use crate::runs::{cycle_agrees, keeps};
 use anyhow::Result;
 use cell_netlist::{Ask, Netlist, SoundNet};
 use pulse_ids::NoMemory;
@@ -51,6 +51,9 @@ fn world_agrees(
     requires { net.now ≡ world.old.net }
 {
     let mut state = first_state(alloc, machine)?;
+    if !keeps(world, net, &state) {
+        return Ok(false);
+    }
     three_agree(alloc, world, net, draw, machine, &mut state)
 }
 

@@ -94,11 +94,11 @@ pub(crate) fn grounded(alloc: Global, raw: RawMachine) -> Result<Machine> {
         .context("the machine is not well founded")
 }
 
-/// The netlist of a machine with the rails of an ask, as the checker finds it sound.
+/// The netlist of a machine in version two with the rails of an ask, as the checker finds it sound.
 pub(crate) fn netlist_of(alloc: Global, machine: &Machine, ask: Ask) -> Result<SoundNet> {
     let built = build(alloc, machine)?;
     let needed = demand(alloc, &built, ask)?;
-    let net = map(alloc, machine, &built, &needed, ask, Version::One)?;
+    let net = map(alloc, machine, &built, &needed, ask, Version::Two)?;
     check(alloc, net.into_net())
         .ok()
         .context("the netlist is unsound")

@@ -1,8 +1,8 @@
 //! Compares random machines with their netlists: standard input has the seed of the first machine and how many there are.
 //!
 //! Each machine has three inputs, three latches, up to 40 conjunctions and four outputs. For each choice of rails its netlist
-//! is checked, and three cycles of it on random vectors, with the pulses delivered in a random order, are compared with
-//! those of the machine. The seed of each machine that differs is printed, and last how many agree.
+//! of version two is checked, and three cycles of it on random vectors, with the pulses delivered in a random order, are
+//! compared with those of the machine, and the cells that the state lines name with the machine's states. The seed of each machine that differs is printed, and last how many agree.
 #![tactic(auto)]
 
 mod agreeing;

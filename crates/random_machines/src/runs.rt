@@ -98,7 +98,22 @@ fn phase_shows(
     world.pending_len() == 0 && shows(world, net, phase, bits)
 }
 
-/// Whether a cycle of the netlist on a random vector shows the outputs of the machine and ends at rest.
+/// Whether the cell that each state line names keeps its latch's bit of this state.
+pub(crate) fn keeps(world: &World<'_>, net: &Netlist, state: &[bool]) -> bool
+    requires { net.now ≡ world.now.net }
+{
+    for line in net.state_lines() {
+        if line.cell.number() >= net.cells().len()
+            || state.get(line.latch as usize) != Some(&world.stored(line.cell))
+        {
+            return false;
+        }
+    }
+    true
+}
+
+/// Whether a cycle of the netlist on a random vector shows the outputs of the machine, ends at rest, and leaves the
+/// machine's next state in the cells that the state lines name.
 pub(crate) fn cycle_agrees(
     alloc: Global,
     world: &mut World<'_>,
@@ -116,6 +131,7 @@ pub(crate) fn cycle_agrees(
         bits.len() == net.outputs() as usize
             && phase_shows(world, net, draw, Phase::Excite, &inputs, &bits)
             && phase_shows(world, net, draw, Phase::Relax, &inputs, &bits)
-            && world.at_rest(),
+            && world.at_rest()
+            && keeps(world, net, state),
     )
 }

@@ -1,5 +1,5 @@
 -- The backs that state lines name keep the latches of the machine.
-use Rattle.std.proofs.Common.{◌≡◌, ◌≤◌, inl, inr, ℕ, zero, suc, Bool, false, Option, Some, List, [], map, length, slice_get, ap, sym, subst, ◌∙◌, refl, arith}
+use Rattle.std.proofs.Common.{◌≡◌, ◌∷◌, ◌≤◌, inl, inr, ℕ, zero, suc, Bool, false, Option, Some, List, [], map, length, slice_get, ap, sym, subst, ◌∙◌, refl, arith}
 use Rattle.std.specs.Prelude.{option_map, unwrap_or}
 use Rattle.std.proofs.lemmas.Option.{slice_get_within}
 use Rattle.pulse_ids.specs.Lists.{IsIn, bit_at}
@@ -54,7 +54,7 @@ module _ (rails : RailLaw) (machine : PlainMachine) (net : PlainNetlist) (sound 
   mapped_same (cell ∷ cells) same = rw (same cell (inl refl), mapped_same cells (λ other m. same other (inr m))) refl
 
   no_vectors : AreVectors machine []
-  no_vectors = λ k d lt e. absurd (omega arith)
+  no_vectors = λ k d lt. absurd (omega arith)
 
   pub keeps_latches : KeepsLatches machine net
   keeps_latches = record {
